@@ -1,0 +1,17 @@
+pub mod Steps
+pub mod Tests
+pub mod Numerals
+pub mod Shown
+pub mod Leading
+pub mod Spelled
+pub mod Runs
+pub mod Taken
+pub mod Wells
+pub mod Words
+pub mod Closing
+pub mod Lexing
+pub mod Laying
+pub mod Reading
+pub mod Limits
+pub mod Prints
+pub mod Answering

@@ -1,0 +1,7 @@
+pub mod Tokens
+pub mod Grammar
+pub mod Texts
+pub mod Printing
+pub mod Machine
+pub mod Views
+pub mod Reads

@@ -1,0 +1,10 @@
+-- Definitions as data, and lists of them with the newest first.
+use Rattle.std.specs.Prelude.{ℕ, List}
+use Rattle.fp_term.specs.Types.{Typ}
+use Rattle.fp_term.specs.Terms.{Tm}
+
+pub data Def : Type 0 where
+  -- the constant `name` of that type, equal to the body
+  new_constant : (name : List ℕ) (type : Typ) (body : Tm) → Def
+  -- the type constructor `name` with these parameters: what meets the predicate, as the inhabitant does, by `abs` and `rep`
+  new_type : (name : List ℕ) (params : List (List ℕ)) (predicate inhabitant : Tm) (abs rep : List ℕ) → Def

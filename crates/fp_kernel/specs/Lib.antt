@@ -1,0 +1,9 @@
+pub mod Definitions
+pub mod Logic
+pub mod Start
+pub mod Derivability
+pub mod Conservative
+pub mod Theorems
+pub mod Codes
+pub mod Views
+pub mod Defining

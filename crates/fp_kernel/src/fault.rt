@@ -1,0 +1,77 @@
+ghost use Rattle.std.specs.Prelude.{◌≡◌};
+ghost use Rattle.fp_kernel.specs.Defining.{FaultIs, refused, name_taken, unknown_name, not_closed, hidden_type, SameTyping};
+ghost use Rattle.fp_kernel.specs.declared.fault.DefFault.TheVariants.{NoMemory};
+
+use fp_term::{Name, Place, TypeOfFault};
+use std::alloc::AllocError;
+
+/// Why a definition is refused.
+#[derive(Drop)]
+pub enum DefFault {
+    /// There is such a constant.
+    NameTaken(Name),
+    /// The first name of the body, from the left, that isn't in the signature as it stands there.
+    UnknownName(Name),
+    /// The place of the body's first ill-typed subterm in post-order.
+    IllTyped(Place),
+    /// The first free variable of the body.
+    NotClosed(Name),
+    /// The first type variable of the body that its type lacks.
+    HiddenType(Name),
+    NoMemory,
+}
+
+impl From<AllocError> for DefFault {
+    ghost from_gives = { λ _ fault. fault ≡ NoMemory };
+
+    fn from(_: AllocError) -> DefFault {
+        DefFault::NoMemory
+    }
+}
+
+impl From<TypeOfFault> for DefFault {
+    ghost from_gives = { λ fault made. SameTyping fault made };
+
+    fn from(fault: TypeOfFault) -> DefFault {
+        match fault {
+            TypeOfFault::IllTyped(place) => DefFault::IllTyped(place),
+            TypeOfFault::NoMemory => DefFault::NoMemory,
+        }
+    }
+}
+
+pub(crate) fn name_taken(name: &Name) -> DefFault
+    ensures { FaultIs result (refused (name_taken name.now)) }
+{
+    match name.copy() {
+        Ok(name) => DefFault::NameTaken(name),
+        Err(_) => DefFault::NoMemory,
+    }
+}
+
+pub(crate) fn unknown_name(name: &Name) -> DefFault
+    ensures { FaultIs result (refused (unknown_name name.now)) }
+{
+    match name.copy() {
+        Ok(name) => DefFault::UnknownName(name),
+        Err(_) => DefFault::NoMemory,
+    }
+}
+
+pub(crate) fn not_closed(name: &Name) -> DefFault
+    ensures { FaultIs result (refused (not_closed name.now)) }
+{
+    match name.copy() {
+        Ok(name) => DefFault::NotClosed(name),
+        Err(_) => DefFault::NoMemory,
+    }
+}
+
+pub(crate) fn hides_type(name: &Name) -> DefFault
+    ensures { FaultIs result (refused (hidden_type name.now)) }
+{
+    match name.copy() {
+        Ok(name) => DefFault::HiddenType(name),
+        Err(_) => DefFault::NoMemory,
+    }
+}

@@ -1,0 +1,5 @@
+pub mod Equal
+pub mod Choices
+pub mod Search
+pub mod Instances
+pub mod Known

@@ -1,0 +1,10 @@
+pub mod Names
+pub mod Types
+pub mod Terms
+pub mod Codes
+pub mod TyView
+pub mod TermView
+pub mod Typing
+pub mod Faults
+pub mod Variables
+pub mod Signatures

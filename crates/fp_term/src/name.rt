@@ -1,0 +1,131 @@
+ghost use Rattle.std.specs.Prelude.{◌≡◌, ◌↔◌, true, false, IsTrue, IfOk, OnOk, OnErr, MatchResult, MatchOption};
+ghost use Rattle.std.specs.List.{list_all};
+ghost use Rattle.std.specs.Str.{bytes_eq};
+ghost use Rattle.fp_term.specs.Names.{is_name, is_start_byte, is_part_byte, function, truth, equality};
+
+use std::alloc::{AllocError, Global};
+use std::marker::Model;
+use std::sync::Arc;
+
+/// A text of 1 to 160 bytes: a letter or `_`, then letters, digits, `_` and `'`. A copy shares the text.
+#[derive(Drop)]
+pub struct Name {
+    bytes: Arc<Vec<u8>>,
+}
+
+impl Model for Name {
+    ghost use Rattle.std.specs.Prelude.{List, ℕ, IsTrue};
+    ghost use Rattle.fp_term.specs.Names.{is_name, is_start_byte, is_part_byte, function, truth, equality};
+
+    ghost Value = { List ℕ };
+
+    ghost view = { λ n. n.bytes.value.items };
+
+    ghost invariant = { λ n. IsTrue (is_name n.bytes.value.items) };
+}
+
+fn is_start(byte: u8) -> bool
+    ensures { result ≡ is_start_byte byte }
+{
+    byte.is_ascii_alphabetic() || byte == b'_'
+}
+
+fn is_part(byte: u8) -> bool
+    ensures { result ≡ is_part_byte byte }
+{
+    byte.is_ascii_alphanumeric() || byte == b'_' || byte == b'\''
+}
+
+fn all_parts(bytes: &[u8]) -> bool
+    ensures { result ≡ list_all is_part_byte bytes.now }
+{
+    bytes.iter().all(|byte| is_part(*byte))
+}
+
+#[tactic(auto, unfolding(crate::specs::Names::is_name))]
+fn has_form(bytes: &[u8]) -> bool
+    ensures { result ≡ is_name bytes.now }
+{
+    !bytes.is_empty() && bytes.len() < 161 && is_start(bytes[0]) && all_parts(bytes)
+}
+
+impl Name {
+    /// The name of these bytes, if they have its form.
+    pub fn new(alloc: Global, bytes: &[u8]) -> Result<Option<Name>, AllocError>
+        ensures { IfOk result (λ o. MatchOption o (is_name bytes.now ≡ false) (λ n. (n ≡ bytes.now) × (is_name bytes.now ≡ true))) }
+    {
+        if !has_form(bytes) {
+            return Ok(None);
+        }
+        Ok(Some(Name::of(alloc, bytes)?))
+    }
+
+    /// The name of bytes that have its form.
+    pub fn of(alloc: Global, bytes: &[u8]) -> Result<Name, AllocError>
+        requires { IsTrue (is_name bytes.now) }
+        ensures { IfOk result (λ n. n ≡ bytes.now) }
+    {
+        let bytes = Vec::from_slice(alloc, bytes)?;
+        Ok(Name {
+            bytes: Arc::new(alloc, bytes)?,
+        })
+    }
+
+    pub fn as_slice(&self) -> &[u8]
+        ensures value { result.now ≡ self.now }
+        ensures form { is_name self.now ≡ true }
+    {
+        self.bytes.as_slice()
+    }
+
+    /// An equal name.
+    pub fn copy(&self) -> Result<Name, AllocError>
+        ensures { IfOk result (λ n. n ≡ self.now) }
+    {
+        Ok(Name {
+            bytes: Arc::try_clone(&self.bytes)?,
+        })
+    }
+
+    pub fn is_equality(&self) -> bool
+        ensures { result ≡ bytes_eq self.now equality }
+    {
+        self.bytes.as_slice() == b"eq".as_slice()
+    }
+
+    pub fn is_function(&self) -> bool
+        ensures { result ≡ bytes_eq self.now function }
+    {
+        self.bytes.as_slice() == b"fun".as_slice()
+    }
+
+    pub fn equals(&self, other: &Name) -> bool
+        ensures { result ≡ bytes_eq self.now other.now }
+    {
+        self.bytes.as_slice() == other.bytes.as_slice()
+    }
+}
+
+/// The name of the type of truth values.
+#[tactic(auto, unfolding(crate::specs::Names::is_name))]
+pub fn truth_name(alloc: Global) -> Result<Name, AllocError>
+    ensures { IfOk result (λ n. n ≡ truth) }
+{
+    Name::of(alloc, b"bool")
+}
+
+/// The name of equality.
+#[tactic(auto, unfolding(crate::specs::Names::is_name))]
+pub fn equality_name(alloc: Global) -> Result<Name, AllocError>
+    ensures { IfOk result (λ n. n ≡ equality) }
+{
+    Name::of(alloc, b"eq")
+}
+
+/// The name of the constructor of functions.
+#[tactic(auto, unfolding(crate::specs::Names::is_name))]
+pub fn function_name(alloc: Global) -> Result<Name, AllocError>
+    ensures { IfOk result (λ n. n ≡ function) }
+{
+    Name::of(alloc, b"fun")
+}

@@ -1,0 +1,11 @@
+//! Tests of the libraries: what no clause says, each public call with ample memory, and faults one at a time.
+#![tactic(auto)]
+
+#[cfg(test)]
+mod full;
+#[cfg(test)]
+mod kernel;
+#[cfg(test)]
+mod outside;
+#[cfg(test)]
+mod terms;

@@ -1,0 +1,74 @@
+ghost use Rattle.std.specs.Prelude.{◌≡◌, ◌++◌, [], ◌∷◌, codes, OnOk, IfOk};
+ghost use Rattle.fp_kernel.specs.Theorems.{IsTheorem};
+ghost use Rattle.fp_full.specs.Printing.{printed_statement};
+ghost use Rattle.fp_full.specs.Views.{entry_of, entries_of};
+ghost use Rattle.funpack.specs.Report.{Carries};
+ghost use Rattle.funpack.specs.Reasons.{RefusedBy};
+
+use crate::refusal::{of_definition, push_refusal};
+use crate::report::Report;
+use fp_full::{Definition, print_full_onto};
+use fp_kernel::{DefFault, Defs, Thm};
+use fp_term::Name;
+use std::alloc::{AllocError, Global};
+
+// Puts the line of an accepted definition at the end.
+fn push_definition(
+    alloc: Global,
+    text: &mut Vec<u8>,
+    name: &Name,
+    theorem: &Thm,
+) -> Result<(), AllocError>
+    ensures derived { OnOk result (IsTheorem theorem.now) }
+    ensures line { OnOk result (text.new.items ≡ text.old.items ++ (codes "definition " ++ name.now ++ codes "_def: " ++ printed_statement theorem.now.hyps theorem.now.concl ++ 10 ∷ [])) }
+{
+    let statement = theorem.statement(alloc)?;
+    text.extend_from_slice(b"definition ")?;
+    text.extend_from_slice(name.as_slice())?;
+    text.extend_from_slice(b"_def: ")?;
+    print_full_onto(text, &statement)?;
+    text.push(b'\n')?;
+    Ok(())
+}
+
+// Puts the line of a refused definition at the end.
+fn push_refused(
+    alloc: Global,
+    text: &mut Vec<u8>,
+    file: &str,
+    definition: &Definition,
+    fault: DefFault,
+) -> Result<(), AllocError>
+    ensures { OnOk result (RefusedBy fault file.now (entry_of definition.now) text.old.items text.new.items) }
+{
+    let refusal = of_definition(fault, definition.at, definition.brace)?;
+    push_refusal(alloc, text, file, &refusal)
+}
+
+// Carries the definitions of a file out, up to the first that is refused.
+pub fn carry_out(
+    alloc: Global,
+    file: &str,
+    definitions: &[Definition],
+) -> Result<Report, AllocError>
+    ensures { IfOk result (λ report. Carries file.now [] (entries_of definitions.now) report.text.items report.refused) }
+{
+    let mut defs = Defs::new(alloc)?;
+    let mut text = Vec::new(alloc);
+    for definition in definitions {
+        match defs.define(alloc, &definition.name, &definition.term) {
+            Ok(theorem) => push_definition(alloc, &mut text, &definition.name, &theorem)?,
+            Err(fault) => {
+                push_refused(alloc, &mut text, file, definition, fault)?;
+                return Ok(Report {
+                    text,
+                    refused: true,
+                });
+            }
+        }
+    }
+    Ok(Report {
+        text,
+        refused: false,
+    })
+}

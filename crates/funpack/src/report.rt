@@ -1,0 +1,60 @@
+ghost use Rattle.std.specs.Prelude.{◌≡◌, ◌≤◌, ◌<◌, ◌^◌, ◌-◌, ◌↔◌, length, true, IfOk};
+ghost use Rattle.std.specs.Result.{IsErrOf};
+ghost use Rattle.funpack.specs.Report.{IsReport, Reports, refusal_line};
+ghost use Rattle.funpack.specs.Reasons.{fault_seen};
+
+use crate::commands::carry_out;
+use crate::refusal::{Reason, Refusal, push_refusal};
+use fp_full::{FullFault, read_definitions_at};
+use fp_outside::{Files, ReadFault, read_all};
+use std::alloc::{AllocError, Global};
+
+// The most bytes of a file.
+const LIMIT: usize = 4194304;
+
+// A whole text, and whether it ends with a refusal.
+#[derive(Drop)]
+pub struct Report {
+    pub text: Vec<u8>,
+    pub refused: bool,
+}
+
+// The text of a file that isn't read.
+fn unread(alloc: Global, file: &str, at: u32, reason: Reason) -> Result<Report, AllocError>
+    ensures { IfOk result (λ report. (report.text.items ≡ refusal_line file.now at (fault_seen reason)) × (report.refused ≡ true)) }
+{
+    let mut text = Vec::new(alloc);
+    push_refusal(alloc, &mut text, file, &Refusal { at, reason })?;
+    Ok(Report {
+        text,
+        refused: true,
+    })
+}
+
+// The text of a file of these bytes.
+fn report_on(alloc: Global, file: &str, bytes: &[u8]) -> Result<Report, AllocError>
+    requires { length bytes.now ≤ LIMIT }
+    ensures { IfOk result (λ report. IsReport file.now bytes.now report.text.items report.refused) }
+{
+    match read_definitions_at(alloc, bytes) {
+        Ok(definitions) => carry_out(alloc, file, &definitions),
+        Err(FullFault::Refused(at)) => unread(alloc, file, at, Reason::Syntax),
+        Err(FullFault::TooDeep(at)) => unread(alloc, file, at, Reason::TooDeep),
+        Err(FullFault::NameTooLong(at)) => unread(alloc, file, at, Reason::NameTooLong),
+        Err(FullFault::NoMemory) => Err(AllocError),
+    }
+}
+
+// The text of the named file.
+pub fn report_of<F: Files>(alloc: Global, files: &mut F, file: &str) -> Result<Report, ReadFault>
+    requires { F.faults files.old < 2 ^ 64 - 1 }
+    ensures reports { IfOk result (λ report. Reports (F.held files.old) file.now report.text.items report.refused) }
+    ensures failed { IsErrOf result ReadFault.Failed ↔ (F.faults files.old < F.faults files.new) }
+    ensures counts { F.faults files.old ≤ F.faults files.new }
+{
+    match read_all(alloc, files, file, LIMIT) {
+        Ok(bytes) => Ok(report_on(alloc, file, &bytes)?),
+        Err(ReadFault::TooLong) => Ok(unread(alloc, file, 4194304, Reason::TooLong)?),
+        Err(fault) => Err(fault),
+    }
+}

@@ -1,0 +1,65 @@
+ghost use Rattle.std.specs.Prelude.{◌≡◌, ◌≢◌, ◌≤◌, ◌<◌, ◌-◌, ◌^◌, ◌↔◌, ◌⊎◌, nat_eq, cond, None, true, false, map};
+ghost use Rattle.std.specs.String.{string_bytes};
+ghost use Rattle.std.specs.Io.KnownBytes.{Appends};
+ghost use Rattle.fp_outside.specs.Sink.{AppendsPrefix};
+ghost use Rattle.funpack.specs.Words.{file_word, usage_line};
+ghost use Rattle.funpack.specs.Report.{Writes, WritesPart};
+
+use crate::report::report_of;
+use crate::words::file_in;
+use fp_outside::{Failed, Files, ReadFault, Sink, write_all};
+use std::alloc::Global;
+
+const USAGE: &[u8] = b"usage: funpack run [--full] [--workers N] FILE...\n";
+
+/// Reads the file that the words name, carries its definitions out and writes their theorems, or its refusal.
+///
+/// The answer is 0 where all is accepted, 1 where something is refused, 2 for malformed words, 3 for a fault of the files,
+/// 4 for one of the sink and 5 for want of memory.
+pub fn run<F: Files, K: Sink>(alloc: Global, words: &[String], files: &mut F, sink: &mut K) -> u8
+    requires files { F.faults files.old < 2 ^ 64 - 1 }
+    requires sink { K.faults sink.old < 2 ^ 64 - 1 }
+
+    // With 0 or 1 the whole text of the file is written, and no call failed.
+    ensures accepted { result ≡ 0 → Writes (file_word (map string_bytes words.now)) (F.held files.old) (K.written sink.old) (K.written sink.new) false }
+    ensures refused { result ≡ 1 → Writes (file_word (map string_bytes words.now)) (F.held files.old) (K.written sink.old) (K.written sink.new) true }
+    ensures quiet { result < 3 → (F.faults files.new ≡ F.faults files.old) × (K.faults sink.new ≡ K.faults sink.old) }
+
+    // Malformed words give the usage line, and no file is opened.
+    ensures malformed { result ≡ 2 ↔ (file_word (map string_bytes words.now) ≡ None) × (K.faults sink.new ≡ K.faults sink.old) }
+    ensures usage { result ≡ 2 → Appends (K.written sink.old) (K.written sink.new) usage_line }
+    ensures unopened { file_word (map string_bytes words.now) ≡ None → files.new ≡ files.old }
+
+    // A fault is answered only where its count rose. A first part of the text is written then, or nothing.
+    ensures files_fault { result ≡ 3 → (F.faults files.old < F.faults files.new) × (sink.new ≡ sink.old) }
+    ensures sink_fault { result ≡ 4 → (K.faults sink.old < K.faults sink.new)
+        × WritesPart (file_word (map string_bytes words.now)) (F.held files.old) (K.written sink.old) (K.written sink.new) }
+    ensures memory { result ≡ 5 → sink.new ≡ sink.old }
+
+    // Without a fault there is no other answer than these and want of memory.
+    ensures complete { F.faults files.new ≡ F.faults files.old → K.faults sink.new ≡ K.faults sink.old → (result < 3) ⊎ (result ≡ 5) }
+    ensures range { result ≤ 5 }
+{
+    let Some(file) = file_in(words) else {
+        return finish(sink, USAGE, 2);
+    };
+    match report_of(alloc, files, file) {
+        Ok(report) => finish(sink, &report.text, if report.refused { 1 } else { 0 }),
+        Err(ReadFault::Failed) => 3,
+        Err(_) => 5,
+    }
+}
+
+// Writes the text, and answers the status that belongs to it.
+fn finish<K: Sink>(sink: &mut K, text: &[u8], status: u8) -> u8
+    requires { K.faults sink.old < 2 ^ 64 - 1 }
+    ensures whole { result ≢ 4 → Appends (K.written sink.old) (K.written sink.new) text.now }
+    ensures prefix { AppendsPrefix (K.written sink.old) (K.written sink.new) text.now }
+    ensures status { result ≡ cond (nat_eq (K.faults sink.new) (K.faults sink.old)) status 4 }
+    ensures counts { K.faults sink.old ≤ K.faults sink.new }
+{
+    match write_all(sink, text) {
+        Ok(()) => status,
+        Err(Failed) => 4,
+    }
+}

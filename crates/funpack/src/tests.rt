@@ -1,0 +1,317 @@
+// The program's run over files and a sink in memory.
+use crate::run::run;
+use fp_outside::{MemFiles, MemSink};
+use std::alloc::{AllocError, Global};
+use std::process::Abort;
+use std::test::Fail;
+
+const USAGE: &[u8] = b"usage: funpack run [--full] [--workers N] FILE...\n";
+
+const TT: &[u8] = b"definition tt = {(l (bool) (b 0))}";
+
+const TT_LINE: &[u8] =
+    b"definition tt_def: (s (h) (a (a (c eq (fun (fun (bool) (bool)) (fun (fun (bool) (bool)) (bool)))) (c tt (fun (bool) (bool)))) (l (bool) (b 0))))\n";
+
+fn words_of(alloc: Global, texts: &[&str]) -> Result<Vec<String>, AllocError> {
+    let mut words = Vec::new(alloc);
+    for text in texts {
+        words.push(String::from_str(alloc, text)?)?;
+    }
+    Ok(words)
+}
+
+// Which calls fail, the room of the sink, and what must come of it.
+#[derive(Clone, Copy)]
+struct Row<'a> {
+    words: &'a [&'a str],
+    bytes: &'a [u8],
+    file_call: u64,
+    sink_call: u64,
+    room: usize,
+    status: u8,
+    written: &'a [u8],
+}
+
+fn try_row(rt: &impl Abort, alloc: Global, row: Row<'_>) -> Result<(), AllocError> {
+    let words = words_of(alloc, row.words)?;
+    let mut files = MemFiles::new(alloc);
+    files.add("a.hol", row.bytes)?;
+    files.fail_at(row.file_call);
+    let mut sink = MemSink::with_room(alloc, row.room)?;
+    sink.fail_at(row.sink_call);
+    assert_eq!(rt; run(alloc, &words, &mut files, &mut sink), row.status);
+    assert_eq!(rt; sink.written(), row.written);
+    Ok(())
+}
+
+// Runs the file without faults.
+fn try_file(
+    rt: &impl Abort,
+    alloc: Global,
+    bytes: &[u8],
+    status: u8,
+    written: &[u8],
+) -> Result<(), AllocError> {
+    try_row(
+        rt,
+        alloc,
+        Row {
+            words: &["run", "--full", "a.hol"],
+            bytes,
+            file_call: 0,
+            sink_call: 0,
+            room: 1000,
+            status,
+            written,
+        },
+    )
+}
+
+#[test]
+fn accepted_files(rt: HostRuntime) -> Result<(), Fail> {
+    let alloc = rt.alloc();
+    try_file(&rt, alloc, TT, 0, TT_LINE)?;
+    try_file(&rt, alloc, b"", 0, b"")?;
+    try_file(
+        &rt,
+        alloc,
+        b"definition\ttt={ ( l(bool)(b\r0) )\n} ",
+        0,
+        TT_LINE,
+    )?;
+    Ok(())
+}
+
+#[test]
+fn refused_definitions(rt: HostRuntime) -> Result<(), Fail> {
+    let alloc = rt.alloc();
+    let rows: [(&[u8], &[u8]); 9] = [
+        (
+            b"definition T = {(c F (bool))}",
+            b"refused a.hol at 0: NameTaken T\n",
+        ),
+        (
+            b"definition c = {(c c (bool))}",
+            b"refused a.hol at 15: UnknownName c\n",
+        ),
+        (
+            b"definition c = {(c T (ind))}",
+            b"refused a.hol at 15: UnknownName T\n",
+        ),
+        (
+            b"definition c = {(l (bool (bool)) (b 0))}",
+            b"refused a.hol at 15: UnknownName bool\n",
+        ),
+        (b"definition c = {(b 0)}", b"refused a.hol at 15: Clash\n"),
+        (
+            b"definition c = {(a (c T (bool)) (c F (bool)))}",
+            b"refused a.hol at 15: Clash\n",
+        ),
+        (
+            b"definition c = {(v x (bool))}",
+            b"refused a.hol at 0: NotClosed x\n",
+        ),
+        (
+            b"definition c = {(a (l (fun 'a 'a) (c T (bool))) (l 'a (b 0)))}",
+            b"refused a.hol at 0: HiddenType 'a\n",
+        ),
+        (
+            b" definition c = {(a (l 'b (c T (bool))) (c select (fun (fun 'b (bool)) 'b)))}",
+            b"refused a.hol at 16: Clash\n",
+        ),
+    ];
+    for (bytes, line) in rows {
+        try_file(&rt, alloc, bytes, 1, line)?;
+    }
+    Ok(())
+}
+
+#[test]
+fn refusals_in_order(rt: HostRuntime) -> Result<(), Fail> {
+    let alloc = rt.alloc();
+    let rows: [(&[u8], &[u8]); 5] = [
+        (
+            b"definition T = {(c other (bool))}",
+            b"refused a.hol at 0: NameTaken T\n",
+        ),
+        (
+            b"definition c = {(a (c other (bool)) (b 0))}",
+            b"refused a.hol at 15: UnknownName other\n",
+        ),
+        (
+            b"definition c = {(a (v x (bool)) (v y (bool)))}",
+            b"refused a.hol at 15: Clash\n",
+        ),
+        (
+            b"definition c = {(a (l (fun 'a 'a) (v x (bool))) (l 'a (b 0)))}",
+            b"refused a.hol at 0: NotClosed x\n",
+        ),
+        (
+            b"definition c = {(c c (bool))} definition c = {",
+            b"refused a.hol at 46: Syntax\n",
+        ),
+    ];
+    for (bytes, line) in rows {
+        try_file(&rt, alloc, bytes, 1, line)?;
+    }
+    Ok(())
+}
+
+// The line of the first definition stands before the refusal of the second.
+#[test]
+fn refused_after_a_line(rt: HostRuntime) -> Result<(), Fail> {
+    let alloc = rt.alloc();
+    try_file(
+        &rt,
+        alloc,
+        b"definition a = {(c T (bool))}\ndefinition a = {(c F (bool))}\ndefinition b = {(c T (bool))}",
+        1,
+        b"definition a_def: (s (h) (a (a (c eq (fun (bool) (fun (bool) (bool)))) (c a (bool))) (c T (bool))))\nrefused a.hol at 30: NameTaken a\n",
+    )?;
+    Ok(())
+}
+
+#[test]
+fn refused_bytes(rt: HostRuntime) -> Result<(), Fail> {
+    let alloc = rt.alloc();
+    let rows: [(&[u8], &[u8]); 9] = [
+        (b"x", b"refused a.hol at 0: Syntax\n"),
+        (
+            b"definition lemma = {(b 0)}",
+            b"refused a.hol at 16: Syntax\n",
+        ),
+        (b"definitions", b"refused a.hol at 10: Syntax\n"),
+        (b"definition c = {(b 00)}", b"refused a.hol at 20: Syntax\n"),
+        (
+            b"definition c = {(b 4294967296)}",
+            b"refused a.hol at 28: Syntax\n",
+        ),
+        (
+            b"definition c = {(c T (bool)}",
+            b"refused a.hol at 27: Syntax\n",
+        ),
+        (
+            b"definition c = {(v x'a)}",
+            b"refused a.hol at 22: Syntax\n",
+        ),
+        (b"definition c => {", b"refused a.hol at 14: Syntax\n"),
+        (b"# no comment", b"refused a.hol at 0: Syntax\n"),
+    ];
+    for (bytes, line) in rows {
+        try_file(&rt, alloc, bytes, 1, line)?;
+    }
+    Ok(())
+}
+
+#[test]
+fn cut_files(rt: HostRuntime) -> Result<(), Fail> {
+    let alloc = rt.alloc();
+    for cut in 1..TT.len() {
+        let line = format!(in alloc; "refused a.hol at {cut}: Syntax\n")?;
+        try_file(&rt, alloc, &TT[..cut], 1, line.as_bytes())?;
+    }
+    Ok(())
+}
+
+fn repeated(alloc: Global, piece: &[u8], count: usize) -> Result<Vec<u8>, AllocError> {
+    let mut bytes = Vec::new(alloc);
+    for _ in 0..count {
+        bytes.extend_from_slice(piece)?;
+    }
+    Ok(bytes)
+}
+
+#[test]
+fn limits(rt: HostRuntime) -> Result<(), Fail> {
+    let alloc = rt.alloc();
+    let mut deep = repeated(alloc, b"definition c = {", 1)?;
+    deep.extend_from_slice(&repeated(alloc, b"(a ", 201)?)?;
+    try_file(&rt, alloc, &deep, 1, b"refused a.hol at 616: TooDeep\n")?;
+    let mut name = repeated(alloc, b"definition ", 1)?;
+    name.extend_from_slice(&repeated(alloc, b"n", 65)?)?;
+    try_file(&rt, alloc, &name, 1, b"refused a.hol at 11: NameTooLong\n")?;
+    let long = repeated(alloc, b" ", 4194305)?;
+    try_file(&rt, alloc, &long, 1, b"refused a.hol at 4194304: TooLong\n")?;
+    let whole = repeated(alloc, b" ", 4194304)?;
+    try_file(&rt, alloc, &whole, 0, b"")?;
+    Ok(())
+}
+
+#[test]
+fn faults(rt: HostRuntime) -> Result<(), Fail> {
+    let alloc = rt.alloc();
+    let row = Row {
+        words: &["run", "--full", "a.hol"],
+        bytes: TT,
+        file_call: 0,
+        sink_call: 0,
+        room: 5,
+        status: 4,
+        written: b"defin",
+    };
+    try_row(&rt, alloc, row)?;
+    try_row(
+        &rt,
+        alloc,
+        Row {
+            sink_call: 1,
+            room: 1000,
+            written: b"",
+            ..row
+        },
+    )?;
+    let unread = Row {
+        status: 3,
+        room: 1000,
+        written: b"",
+        ..row
+    };
+    try_row(
+        &rt,
+        alloc,
+        Row {
+            file_call: 2,
+            ..unread
+        },
+    )?;
+    try_row(
+        &rt,
+        alloc,
+        Row {
+            words: &["run", "--full", "b.hol"],
+            ..unread
+        },
+    )?;
+    Ok(())
+}
+
+#[test]
+fn malformed_words(rt: HostRuntime) -> Result<(), Fail> {
+    let alloc = rt.alloc();
+    let rows: [&[&str]; 8] = [
+        &[],
+        &["run"],
+        &["run", "--full"],
+        &["run", "a.hol"],
+        &["run", "--full", "--full"],
+        &["run", "--full", ""],
+        &["run", "--full", "a.hol", "b.hol"],
+        &["gen", "--full", "a.hol"],
+    ];
+    for words in rows {
+        try_row(
+            &rt,
+            alloc,
+            Row {
+                words,
+                bytes: TT,
+                file_call: 1,
+                sink_call: 0,
+                room: 1000,
+                status: 2,
+                written: USAGE,
+            },
+        )?;
+    }
+    Ok(())
+}
