@@ -6,6 +6,8 @@ mod full;
 #[cfg(test)]
 mod kernel;
 #[cfg(test)]
+mod matching;
+#[cfg(test)]
 mod outside;
 #[cfg(test)]
 mod terms;

@@ -1,0 +1,5 @@
+pub mod Untyped
+pub mod Exact
+pub mod TypePairs
+pub mod TermPairs
+pub mod Matching
