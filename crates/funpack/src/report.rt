@@ -2,6 +2,7 @@ ghost use Rattle.std.specs.Prelude.{◌≡◌, ◌≤◌, ◌<◌, ◌^◌, ◌-
 ghost use Rattle.std.specs.Result.{IsErrOf};
 ghost use Rattle.funpack.specs.Report.{IsReport, Reports, refusal_line};
 ghost use Rattle.funpack.specs.Reasons.{fault_seen};
+ghost use Rattle.funpack.specs.declared.report.ReportFault.TheVariants as fault;
 
 use crate::commands::carry_out;
 use crate::refusal::{Reason, Refusal, push_refusal};
@@ -17,6 +18,23 @@ const LIMIT: usize = 4194304;
 pub struct Report {
     pub text: Vec<u8>,
     pub refused: bool,
+}
+
+/// Why there is no text of a file.
+#[derive(Clone, Copy)]
+pub enum ReportFault {
+    /// A call to the files failed.
+    Failed,
+    /// Memory ran out.
+    NoMemory,
+}
+
+impl From<AllocError> for ReportFault {
+    ghost from_gives = { λ _ f. f ≡ fault.NoMemory };
+
+    fn from(_: AllocError) -> Self {
+        ReportFault::NoMemory
+    }
 }
 
 // The text of a file that isn't read.
@@ -45,16 +63,18 @@ fn report_on(alloc: Global, file: &str, bytes: &[u8]) -> Result<Report, AllocErr
     }
 }
 
-// The text of the named file.
-pub fn report_of<F: Files>(alloc: Global, files: &mut F, file: &str) -> Result<Report, ReadFault>
+// The text of the named file. `Failed` comes exactly where the count of the files rose, and the only other fault is want of
+// memory.
+pub fn report_of<F: Files>(alloc: Global, files: &mut F, file: &str) -> Result<Report, ReportFault>
     requires { F.faults files.old < 2 ^ 64 - 1 }
     ensures reports { IfOk result (λ report. Reports (F.held files.old) file.now report.text.items report.refused) }
-    ensures failed { IsErrOf result ReadFault.Failed ↔ (F.faults files.old < F.faults files.new) }
+    ensures failed { IsErrOf result ReportFault.Failed ↔ (F.faults files.old < F.faults files.new) }
     ensures counts { F.faults files.old ≤ F.faults files.new }
 {
     match read_all(alloc, files, file, LIMIT) {
         Ok(bytes) => Ok(report_on(alloc, file, &bytes)?),
         Err(ReadFault::TooLong) => Ok(unread(alloc, file, 4194304, Reason::TooLong)?),
-        Err(fault) => Err(fault),
+        Err(ReadFault::Failed) => Err(ReportFault::Failed),
+        Err(ReadFault::NoMemory) => Err(ReportFault::NoMemory),
     }
 }

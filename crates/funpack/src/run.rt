@@ -5,9 +5,9 @@ ghost use Rattle.fp_outside.specs.Sink.{AppendsPrefix};
 ghost use Rattle.funpack.specs.Words.{file_word, usage_line};
 ghost use Rattle.funpack.specs.Report.{Writes, WritesPart};
 
-use crate::report::report_of;
+use crate::report::{ReportFault, report_of};
 use crate::words::file_in;
-use fp_outside::{Failed, Files, ReadFault, Sink, write_all};
+use fp_outside::{Failed, Files, Sink, write_all};
 use std::alloc::Global;
 
 const USAGE: &[u8] = b"usage: funpack run [--full] [--workers N] FILE...\n";
@@ -45,8 +45,8 @@ pub fn run<F: Files, K: Sink>(alloc: Global, words: &[String], files: &mut F, si
     };
     match report_of(alloc, files, file) {
         Ok(report) => finish(sink, &report.text, if report.refused { 1 } else { 0 }),
-        Err(ReadFault::Failed) => 3,
-        Err(_) => 5,
+        Err(ReportFault::Failed) => 3,
+        Err(ReportFault::NoMemory) => 5,
     }
 }
 
