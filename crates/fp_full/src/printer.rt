@@ -70,13 +70,20 @@ fn print_term_onto(out: &mut Vec<u8>, term: &Term) -> Result<(), AllocError>
             out.extend_from_slice(b")")
         }
         Node::Abs { ty, body } => {
-            out.extend_from_slice(b"(l ")?;
-            print_type_onto(out, ty)?;
-            out.push(b' ')?;
+            print_binder_onto(out, ty)?;
             print_term_onto(out, body)?;
             out.extend_from_slice(b")")
         }
     }
+}
+
+// An abstraction's opening, its type and a space.
+fn print_binder_onto(out: &mut Vec<u8>, ty: &Ty) -> Result<(), AllocError>
+    ensures { OnOk result (out.new.items ≡ out.old.items ++ (40 ∷ 108 ∷ 32 ∷ (printed_type ty.now ++ 32 ∷ []))) }
+{
+    out.extend_from_slice(b"(l ")?;
+    print_type_onto(out, ty)?;
+    out.extend_from_slice(b" ")
 }
 
 fn print_bound_onto(out: &mut Vec<u8>, number: u32) -> Result<(), AllocError>
@@ -110,18 +117,22 @@ fn print_typed_onto(
     out.extend_from_slice(b")")
 }
 
+// A byte, and a name.
+fn print_name_onto(out: &mut Vec<u8>, byte: u8, name: &Name) -> Result<(), AllocError>
+    ensures { OnOk result (out.new.items ≡ out.old.items ++ byte ∷ name.now) }
+{
+    out.push(byte)?;
+    out.extend_from_slice(name.as_slice())
+}
+
 #[cycle(print_type)]
 fn print_type_onto(out: &mut Vec<u8>, ty: &Ty) -> Result<(), AllocError>
     ensures { OnOk result (out.new.items ≡ out.old.items ++ printed_type ty.now) }
 {
     match ty.node() {
-        TyNode::Var(name) => {
-            out.push(b'\'')?;
-            out.extend_from_slice(name.as_slice())
-        }
+        TyNode::Var(name) => print_name_onto(out, b'\'', name),
         TyNode::Con { name, args } => {
-            out.push(b'(')?;
-            out.extend_from_slice(name.as_slice())?;
+            print_name_onto(out, b'(', name)?;
             print_types_onto(out, args)?;
             out.extend_from_slice(b")")
         }

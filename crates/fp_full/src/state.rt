@@ -6,7 +6,7 @@ ghost use Rattle.fp_term.specs.Names.{is_name};
 ghost use Rattle.fp_term.specs.Terms.{bound};
 ghost use Rattle.fp_full.specs.Tokens.{left, right, equals, brace_left, brace_right, word};
 ghost use Rattle.fp_full.specs.Grammar.{is_reserved};
-ghost use Rattle.fp_full.specs.Machine.{form_word, is_numeral, read_on, close_due, equals_due, type_due, entry_name_due};
+ghost use Rattle.fp_full.specs.Machine.{form_byte, form_word, is_numeral, read_on, free_type, constant_type, close_due, equals_due, type_due, entry_name_due, hypotheses_due, hypothesis_due};
 ghost use Rattle.fp_full.specs.Views.{state_of, nest_of, use_of, entries_of, parsed_of, token_of};
 
 use crate::lexicon::{self, Mark};
@@ -68,16 +68,26 @@ impl Drop for State {
         }
     }
 }
+// After the byte of a form.
+fn after_form_byte(alloc: Global, byte: u8, nest: Nest) -> Result<Option<State>, AllocError>
+    ensures { IfOk result (λ state. option_map state_of state ≡ form_byte byte (nest_of nest)) }
+{
+    match byte {
+        b'b' => Ok(Some(State::NumberDue(nest))),
+        b'v' => Ok(Some(State::FreeNameDue(nest))),
+        b'c' => Ok(Some(State::ConstantNameDue(nest))),
+        b'a' => Ok(Some(State::TermDue(deeper(nest, Frame::Function)?))),
+        b'l' => Ok(Some(type_of_name(alloc, Use::Bound, nest))),
+        _ => Ok(None),
+    }
+}
+
 // After the word of a form.
 fn after_form(alloc: Global, form: &[u8], nest: Nest) -> Result<Option<State>, AllocError>
     ensures { IfOk result (λ state. option_map state_of state ≡ form_word form.now (nest_of nest)) }
 {
     match form {
-        [b'b'] => Ok(Some(State::NumberDue(nest))),
-        [b'v'] => Ok(Some(State::FreeNameDue(nest))),
-        [b'c'] => Ok(Some(State::ConstantNameDue(nest))),
-        [b'a'] => Ok(Some(State::TermDue(deeper(nest, Frame::Function)?))),
-        [b'l'] => Ok(Some(State::TypeDue(Use::Bound, Vec::new(alloc), nest))),
+        [byte] => after_form_byte(alloc, *byte, nest),
         _ => Ok(None),
     }
 }
@@ -96,6 +106,48 @@ fn type_of_name(alloc: Global, role: Use, nest: Nest) -> State
     ensures { state_of result ≡ type_due (use_of role) [] (nest_of nest) }
 {
     State::TypeDue(role, Vec::new(alloc), nest)
+}
+
+// After a free variable's name.
+fn after_free_name(alloc: Global, text: &[u8], nest: Nest) -> Result<Option<State>, AllocError>
+    ensures { IfOk result (λ state. option_map state_of state ≡ cond (is_name text.now) (Some (type_due (free_type text.now) [] (nest_of nest))) None) }
+{
+    match Name::new(alloc, text)? {
+        Some(name) => Ok(Some(type_of_name(alloc, Use::Free(name), nest))),
+        None => Ok(None),
+    }
+}
+
+// After a constant's name.
+fn after_constant_name(alloc: Global, text: &[u8], nest: Nest) -> Result<Option<State>, AllocError>
+    ensures { IfOk result (λ state. option_map state_of state ≡ cond (is_name text.now) (Some (type_due (constant_type text.now) [] (nest_of nest))) None) }
+{
+    match Name::new(alloc, text)? {
+        Some(name) => Ok(Some(type_of_name(alloc, Use::Constant(name), nest))),
+        None => Ok(None),
+    }
+}
+
+// After the word at a statement's front.
+fn after_s(text: &[u8]) -> Option<State>
+    ensures { option_map state_of result ≡ cond (bytes_eq text.now (codes "s")) (Some hypotheses_due) None }
+{
+    if text == b"s".as_slice() {
+        Some(State::HypothesesDue)
+    } else {
+        None
+    }
+}
+
+// After the word at the front of the hypotheses.
+fn after_h(alloc: Global, text: &[u8]) -> Option<State>
+    ensures { option_map state_of result ≡ cond (bytes_eq text.now (codes "h")) (Some (hypothesis_due [])) None }
+{
+    if text == b"h".as_slice() {
+        Some(State::HypothesisDue(Vec::new(alloc)))
+    } else {
+        None
+    }
 }
 
 fn after_entry_name(
@@ -140,24 +192,16 @@ impl State {
         match self {
             State::FormDue(nest) => after_form(alloc, text, nest),
             State::NumberDue(nest) => after_number(alloc, text, nest),
-            State::FreeNameDue(nest) => match Name::new(alloc, text)? {
-                Some(name) => Ok(Some(type_of_name(alloc, Use::Free(name), nest))),
-                None => Ok(None),
-            },
-            State::ConstantNameDue(nest) => match Name::new(alloc, text)? {
-                Some(name) => Ok(Some(type_of_name(alloc, Use::Constant(name), nest))),
-                None => Ok(None),
-            },
+            State::FreeNameDue(nest) => after_free_name(alloc, text, nest),
+            State::ConstantNameDue(nest) => after_constant_name(alloc, text, nest),
             State::TypeDue(role, partials, nest) => after_variable(
                 alloc, text, role, partials, nest,
             ),
             State::TypeNameDue(role, partials, nest) => {
                 after_type_name(alloc, text, role, partials, nest)
             }
-            State::SDue if text == b"s".as_slice() => Ok(Some(State::HypothesesDue)),
-            State::HDue if text == b"h".as_slice() => {
-                Ok(Some(State::HypothesisDue(Vec::new(alloc))))
-            }
+            State::SDue => Ok(after_s(text)),
+            State::HDue => Ok(after_h(alloc, text)),
             State::EntryDue(earlier) => Ok(after_definition(text, earlier, at)),
             State::EntryNameDue(earlier, first) => after_entry_name(alloc, text, earlier, first),
             _ => Ok(None),

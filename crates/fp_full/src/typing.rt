@@ -2,7 +2,7 @@
 ghost use Rattle.std.specs.Prelude.{◌≡◌, ◌∷◌, ◌++◌, [], IfOk, cond, Some, None};
 ghost use Rattle.std.specs.Option.{option_map};
 ghost use Rattle.fp_term.specs.Names.{is_name};
-ghost use Rattle.fp_term.specs.Types.{applied};
+ghost use Rattle.fp_term.specs.Types.{applied, variable};
 ghost use Rattle.fp_full.specs.Machine.{typs, after_argument, closed_type, variable_word, type_due};
 ghost use Rattle.fp_full.specs.Views.{state_of, nest_of, use_of, partials_of, variable_in};
 
@@ -118,6 +118,16 @@ pub(crate) fn close_type(
     }
 }
 
+// The type variable of these bytes, if they have a name's form.
+fn variable_named(alloc: Global, name: &[u8]) -> Result<Option<Ty>, AllocError>
+    ensures { IfOk result (λ ty. ty ≡ cond (is_name name.now) (Some (variable name.now)) None) }
+{
+    match Name::new(alloc, name)? {
+        Some(name) => Ok(Some(Ty::var(alloc, name)?)),
+        None => Ok(None),
+    }
+}
+
 // The type variable whose text the word is.
 fn variable_of(alloc: Global, text: &[u8]) -> Result<Option<Ty>, AllocError>
     ensures { IfOk result (λ ty. ty ≡ variable_in text.now) }
@@ -128,10 +138,7 @@ fn variable_of(alloc: Global, text: &[u8]) -> Result<Option<Ty>, AllocError>
     if *first != b'\'' {
         return Ok(None);
     }
-    match Name::new(alloc, name)? {
-        Some(name) => Ok(Some(Ty::var(alloc, name)?)),
-        None => Ok(None),
-    }
+    variable_named(alloc, name)
 }
 
 pub(crate) fn after_variable(
