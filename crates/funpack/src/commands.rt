@@ -12,6 +12,15 @@ use fp_kernel::{DefFault, Defs, Thm};
 use fp_term::Name;
 use std::alloc::{AllocError, Global};
 
+// Puts what a theorem states at the end.
+fn push_statement(alloc: Global, text: &mut Vec<u8>, theorem: &Thm) -> Result<(), AllocError>
+    ensures derived { OnOk result (IsTheorem theorem.now) }
+    ensures printed { OnOk result (text.new.items ≡ text.old.items ++ printed_statement theorem.now.hyps theorem.now.concl) }
+{
+    let statement = theorem.statement(alloc)?;
+    print_full_onto(text, &statement)
+}
+
 // Puts the line of an accepted definition at the end.
 fn push_definition(
     alloc: Global,
@@ -22,11 +31,10 @@ fn push_definition(
     ensures derived { OnOk result (IsTheorem theorem.now) }
     ensures line { OnOk result (text.new.items ≡ text.old.items ++ (codes "definition " ++ name.now ++ codes "_def: " ++ printed_statement theorem.now.hyps theorem.now.concl ++ 10 ∷ [])) }
 {
-    let statement = theorem.statement(alloc)?;
     text.extend_from_slice(b"definition ")?;
     text.extend_from_slice(name.as_slice())?;
     text.extend_from_slice(b"_def: ")?;
-    print_full_onto(text, &statement)?;
+    push_statement(alloc, text, theorem)?;
     text.push(b'\n')?;
     Ok(())
 }

@@ -1,4 +1,4 @@
-ghost use Rattle.std.specs.Prelude.{◌≡◌, ◌≢◌, ◌≤◌, ◌<◌, ◌-◌, ◌^◌, ◌↔◌, ◌⊎◌, nat_eq, cond, None, true, false, map};
+ghost use Rattle.std.specs.Prelude.{◌≡◌, ◌≢◌, ◌≤◌, ◌<◌, ◌-◌, ◌^◌, ◌↔◌, ◌⊎◌, nat_eq, cond, Some, None, true, false, map};
 ghost use Rattle.std.specs.String.{string_bytes};
 ghost use Rattle.std.specs.Io.KnownBytes.{Appends};
 ghost use Rattle.fp_outside.specs.Sink.{AppendsPrefix};
@@ -43,6 +43,24 @@ pub fn run<F: Files, K: Sink>(alloc: Global, words: &[String], files: &mut F, si
     let Some(file) = file_in(words) else {
         return finish(sink, USAGE, 2);
     };
+    run_file(alloc, file, files, sink)
+}
+
+// Carries the definitions of the named file out and writes the text.
+fn run_file<F: Files, K: Sink>(alloc: Global, file: &str, files: &mut F, sink: &mut K) -> u8
+    requires files { F.faults files.old < 2 ^ 64 - 1 }
+    requires sink { K.faults sink.old < 2 ^ 64 - 1 }
+    ensures accepted { result ≡ 0 → Writes (Some file.now) (F.held files.old) (K.written sink.old) (K.written sink.new) false }
+    ensures refused { result ≡ 1 → Writes (Some file.now) (F.held files.old) (K.written sink.old) (K.written sink.new) true }
+    ensures quiet { result < 3 → (F.faults files.new ≡ F.faults files.old) × (K.faults sink.new ≡ K.faults sink.old) }
+    ensures formed { result ≢ 2 }
+    ensures files_fault { result ≡ 3 → (F.faults files.old < F.faults files.new) × (sink.new ≡ sink.old) }
+    ensures sink_fault { result ≡ 4 → (K.faults sink.old < K.faults sink.new)
+        × WritesPart (Some file.now) (F.held files.old) (K.written sink.old) (K.written sink.new) }
+    ensures memory { result ≡ 5 → sink.new ≡ sink.old }
+    ensures complete { F.faults files.new ≡ F.faults files.old → K.faults sink.new ≡ K.faults sink.old → (result < 3) ⊎ (result ≡ 5) }
+    ensures range { result ≤ 5 }
+{
     match report_of(alloc, files, file) {
         Ok(report) => finish(sink, &report.text, if report.refused { 1 } else { 0 }),
         Err(ReportFault::Failed) => 3,

@@ -5,5 +5,5 @@ use Rattle.funpack.proofs.commands.push_definition.Goals as goal
 
 pub returns-clause-line : goal.returns-clause-line
 returns-clause-line c =
-    rw (c.in_ok-push.ensures.items, c.in_ok-print_full_onto.ensures, c.in_ok-extend_from_slice-3.ensures.items, c.in_ok-extend_from_slice-2.ensures.items, c.in_ok-extend_from_slice.ensures.items, c.as_slice.ensures.value, c.in_ok-statement.ensures.hyps, c.in_ok-statement.ensures.concl)
+    rw (c.in_ok-push.ensures.items, c.in_ok-push_statement.ensures.printed, c.in_ok-extend_from_slice-3.ensures.items, c.in_ok-extend_from_slice-2.ensures.items, c.in_ok-extend_from_slice.ensures.items, c.as_slice.ensures.value)
     (regrouped c.args.text.now.items (codes "definition ") c.args.name.now (codes "_def: ") (printed_statement c.args.theorem.now.hyps c.args.theorem.now.concl) (10 ∷ []))
