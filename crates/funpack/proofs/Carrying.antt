@@ -1,11 +1,10 @@
 -- The text so far, and what the definitions that are left give.
 use Rattle.std.proofs.Common.{◌≡◌, ◌∙◌, ◌+◌, ℕ, List, [], ◌∷◌, ◌++◌, Bool, true, false, zero, suc, ◌<◌, ◌≤◌, refl, length, get_or, drop, sym, ap, codes, arith, add-one, append_assoc, append-nil}
 use Rattle.std.proofs.Math.ListN.{drop_of_length-le}
-use Rattle.fp_term.specs.Types.{Typ}
 use Rattle.fp_kernel.specs.Definitions.{Def}
 use Rattle.fp_kernel.specs.Conservative.{IsConservative}
 use Rattle.fp_kernel.specs.Theorems.{Theorem, IsTheorem}
-use Rattle.fp_kernel.specs.Defining.{Refusal, Outcome, refused, defining, defining_theorem, Defines, FaultIs, name_taken, unknown_name, ill_typed_at, not_closed, hidden_type}
+use Rattle.fp_kernel.specs.Defining.{Refusal, Outcome, refused, defining, Defines, FaultIs, name_taken, unknown_name, ill_typed_at, not_closed, hidden_type}
 use Rattle.fp_kernel.specs.declared.fault.DefFault.{DefFault}
 use Rattle.fp_kernel.specs.declared.fault.DefFault.TheVariants.{NameTaken, UnknownName, IllTyped, NotClosed, HiddenType, NoMemory}
 use Rattle.fp_full.specs.declared.parsed.Definition.{Definition}
@@ -13,14 +12,15 @@ use Rattle.fp_full.specs.Grammar.{Entry}
 use Rattle.fp_full.specs.Views.{entry_of, entries_of}
 use Rattle.fp_full.specs.Printing.{printed_statement}
 use Rattle.funpack.specs.Report.{Fault, Carries, accepted, stopped, done, definition_line, refusal_line, place_of, fault_of}
-use Rattle.funpack.specs.Reasons.{Explains, RefusedBy}
+use Rattle.funpack.specs.Reasons.{Explains}
+use Rattle.funpack.specs.Steps.{Steps, goes, stops}
 
 -- whatever the definitions that are left give, all of them give it after the text so far
-pub record Carried (file : List ℕ) (all : List Entry) (defs : List Def) (left : List Entry) (text : List ℕ) : Type 0 where
-  pub whole : (rest : List ℕ) (ends : Bool) → Carries file defs left rest ends → Carries file [] all (text ++ rest) ends
+pub record Carried (file : List ℕ) (first : List Def) (all : List Entry) (defs : List Def) (left : List Entry) (text : List ℕ) : Type 0 where
+  pub whole : (rest : List ℕ) (ends : Bool) → Carries file defs left rest ends → Carries file first all (text ++ rest) ends
 
-pub carried_none : (file : List ℕ) (all : List Entry) → Carried file all [] all []
-carried_none file all = record { whole = λ rest ends c. c }
+pub carried_none : (file : List ℕ) (first : List Def) (all : List Entry) (text : List ℕ) → text ≡ [] → Carried file first all first all text
+carried_none file first all text e = rw e (record { whole = λ rest ends c. c })
 
 -- the line of a theorem
 abbrev line_of : Entry → Theorem → List ℕ
@@ -35,25 +35,34 @@ explained (NotClosed name) o e place printed f x = (not_closed name, f, x.0, x.1
 explained (HiddenType name) o e place printed f x = (hidden_type name, f, x.0, x.1)
 explained NoMemory o e place printed f x = absurd x
 
-module _ (file : List ℕ) (all : List Entry) (defs : List Def) (e : Entry) (left : List Entry) (text : List ℕ) (k : Carried file all defs (e ∷ left) text) where
-  pub carried_more : (new : List Def) (th : Theorem) (longer : List ℕ) → Defines defs new e.name e.term th → IsConservative new → IsTheorem th →
-      longer ≡ text ++ line_of e th → Carried file all new left longer
-  carried_more new th longer d conservative derived same = record {
-    whole = λ rest ends c.
-        rw (same, d.theorem, append_assoc text (definition_line e d.type) rest)
-        (k.whole (definition_line e d.type ++ rest) ends
-        (accepted e d.type d.outcome (rw d.list at conservative) (rw d.theorem at derived) (rw d.list at c)));
-  }
+-- what the steps of one definition answer is a step
+pub accepted_step : (file : List ℕ) (defs new : List Def) (e : Entry) (th : Theorem) (text longer : List ℕ) → Defines defs new e.name e.term th → IsConservative new → IsTheorem th →
+    longer ≡ text ++ line_of e th → Steps file defs new e text longer false
+accepted_step file defs new e th text longer d conservative derived same =
+    goes d.type d.outcome d.list (rw d.list at conservative) (rw d.theorem at derived) (rw d.theorem at same)
 
-  pub carried_refused : (fault : DefFault) (longer : List ℕ) (place : ℕ) (printed : Fault) → FaultIs fault (defining defs e.name e.term) → Explains fault e.at e.brace place printed →
-      longer ≡ text ++ refusal_line file place printed → Carries file [] all longer true
-  carried_refused fault longer place printed f x same =
-      let r = explained fault (defining defs e.name e.term) e place printed f x in
-      let line = same ∙ ap (λ p. text ++ refusal_line file p printed) r.2 ∙ ap (λ q. text ++ refusal_line file (place_of r.0 e) q) r.3 in
-      rw line (k.whole (refusal_line file (place_of r.0 e) (fault_of r.0)) true (stopped e r.0 r.1))
+pub refused_step : (file : List ℕ) (defs new : List Def) (e : Entry) (text longer : List ℕ) (fault : DefFault) (place : ℕ) (printed : Fault) → FaultIs fault (defining defs e.name e.term) →
+    Explains fault e.at e.brace place printed → longer ≡ text ++ refusal_line file place printed → Steps file defs new e text longer true
+refused_step file defs new e text longer fault place printed f x same =
+    let r = explained fault (defining defs e.name e.term) e place printed f x in
+    stops r.0 r.1 (same ∙ ap (λ p. text ++ refusal_line file p printed) r.2 ∙ ap (λ q. text ++ refusal_line file (place_of r.0 e) q) r.3)
 
-pub carried_all : (file : List ℕ) (all : List Entry) (defs : List Def) (text : List ℕ) → Carried file all defs [] text → Carries file [] all text false
-carried_all file all defs text k = let c = k.whole [] false done in rw append-nil at c
+pub carried_more : (file : List ℕ) (first : List Def) (all : List Entry) (defs new : List Def) (e : Entry) (left : List Entry) (text longer : List ℕ) →
+    Carried file first all defs (e ∷ left) text → Steps file defs new e text longer false → Carried file first all new left longer
+carried_more file first all defs new e left text longer k (goes s o list conservative derived same) = record {
+  whole = λ rest ends c.
+      rw (same, append_assoc text (definition_line e s) rest)
+      (k.whole (definition_line e s ++ rest) ends
+      (accepted e s o conservative derived (rw list at c)));
+}
+
+pub carried_refused : (file : List ℕ) (first : List Def) (all : List Entry) (defs new : List Def) (e : Entry) (left : List Entry) (text longer : List ℕ) →
+    Carried file first all defs (e ∷ left) text → Steps file defs new e text longer true → Carries file first all longer true
+carried_refused file first all defs new e left text longer k (stops r o same) =
+    rw same (k.whole (refusal_line file (place_of r e) (fault_of r)) true (stopped e r o))
+
+pub carried_all : (file : List ℕ) (first : List Def) (all : List Entry) (defs : List Def) (text : List ℕ) → Carried file first all defs [] text → Carries file first all text false
+carried_all file first all defs text k = let c = k.whole [] false done in rw append-nil at c
 
 left_from : (ds : List Definition) (i : ℕ) (d : Definition) → i < length ds → d ≡ get_or ds i d → entries_of (drop i ds) ≡ entry_of d ∷ entries_of (drop (suc i) ds)
 left_from [] i d l e = absurd (omega arith)

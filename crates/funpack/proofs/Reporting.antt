@@ -1,7 +1,7 @@
 -- From what the steps of a report answer to the report.
-use Rattle.std.proofs.Common.{◌≡◌, ◌≤◌, ◌<◌, ℕ, List, [], length, Bool, true, Option, Some, None, Result, Ok, Err, IfOk, refl, ap}
+use Rattle.std.proofs.Common.{◌≡◌, ◌≤◌, ℕ, List, [], length, Bool, true, Option, Some, None, Result, Ok, Err, IfOk, refl, ap}
 use Rattle.std.specs.Prelude.{unwrap_or}
-use Rattle.fp_outside.specs.Held.{file_in, IsLonger}
+use Rattle.fp_outside.specs.Held.{IsLonger}
 use Rattle.fp_full.specs.Grammar.{Entry}
 use Rattle.fp_full.specs.Texts.{entries, IsText, KeepsLimits}
 use Rattle.funpack.specs.declared.report.Report.{Report}

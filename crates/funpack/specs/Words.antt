@@ -1,5 +1,5 @@
 -- The words of the program.
-use Rattle.std.specs.Prelude.{◌≡◌, ℕ, List, [], ◌∷◌, ◌++◌, length, Bool, true, false, not, ◌&&◌, cond, nat_le, ◌==◌, Option, Some, None, codes}
+use Rattle.std.specs.Prelude.{ℕ, List, [], ◌∷◌, ◌++◌, length, Bool, false, not, ◌&&◌, cond, nat_le, ◌==◌, Option, Some, None, codes}
 use Rattle.std.specs.Str.{bytes_eq}
 
 -- from 1 to 255 bytes, the first of them no dash

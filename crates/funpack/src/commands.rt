@@ -4,6 +4,7 @@ ghost use Rattle.fp_full.specs.Printing.{printed_statement};
 ghost use Rattle.fp_full.specs.Views.{entry_of, entries_of};
 ghost use Rattle.funpack.specs.Report.{Carries};
 ghost use Rattle.funpack.specs.Reasons.{RefusedBy};
+ghost use Rattle.funpack.specs.Steps.{Steps};
 
 use crate::refusal::{of_definition, push_refusal};
 use crate::report::Report;
@@ -53,6 +54,47 @@ fn push_refused(
     push_refusal(alloc, text, file, &refusal)
 }
 
+// Carries a definition out and puts its line at the end, and says whether it is refused.
+fn carry_one(
+    alloc: Global,
+    file: &str,
+    definition: &Definition,
+    defs: &mut Defs,
+    text: &mut Vec<u8>,
+) -> Result<bool, AllocError>
+    ensures { IfOk result (λ refused. Steps file.now defs.old defs.new (entry_of definition.now) text.old.items text.new.items refused) }
+{
+    match defs.define(alloc, &definition.name, &definition.term) {
+        Ok(theorem) => {
+            push_definition(alloc, text, &definition.name, &theorem)?;
+            Ok(false)
+        }
+        Err(fault) => {
+            push_refused(alloc, text, file, definition, fault)?;
+            Ok(true)
+        }
+    }
+}
+
+// Carries definitions out, up to the first that is refused, and says whether there is one.
+fn carry_each(
+    alloc: Global,
+    file: &str,
+    definitions: &[Definition],
+    defs: &mut Defs,
+    text: &mut Vec<u8>,
+) -> Result<bool, AllocError>
+    requires { text.old.items ≡ [] }
+    ensures { IfOk result (λ refused. Carries file.now defs.old (entries_of definitions.now) text.new.items refused) }
+{
+    for definition in definitions {
+        if carry_one(alloc, file, definition, defs, text)? {
+            return Ok(true);
+        }
+    }
+    Ok(false)
+}
+
 // Carries the definitions of a file out, up to the first that is refused.
 pub fn carry_out(
     alloc: Global,
@@ -63,20 +105,6 @@ pub fn carry_out(
 {
     let mut defs = Defs::new(alloc)?;
     let mut text = Vec::new(alloc);
-    for definition in definitions {
-        match defs.define(alloc, &definition.name, &definition.term) {
-            Ok(theorem) => push_definition(alloc, &mut text, &definition.name, &theorem)?,
-            Err(fault) => {
-                push_refused(alloc, &mut text, file, definition, fault)?;
-                return Ok(Report {
-                    text,
-                    refused: true,
-                });
-            }
-        }
-    }
-    Ok(Report {
-        text,
-        refused: false,
-    })
+    let refused = carry_each(alloc, file, definitions, &mut defs, &mut text)?;
+    Ok(Report { text, refused })
 }
