@@ -1,21 +1,19 @@
 -- What `defining` makes is a new constant, each new constant is made, and its equation is a formula.
-use Rattle.std.proofs.Common.{◌≡◌, ◌∙◌, ℕ, zero, suc, ◌&&◌, List, [], ◌∷◌, refl, sym, ap}
+use Rattle.std.proofs.Common.{◌≡◌, ◌∙◌, ℕ, List, [], ◌∷◌, refl, sym, ap}
 use Rattle.std.specs.Prelude.{Option, Some, None, Result, Ok, Err, IfErr, codes}
-use Rattle.std.specs.List.{slice_get}
-use Rattle.std.specs.Str.{bytes_eq}
-use Rattle.std.proofs.lemmas.Option.{none-some, same_Some}
-use Rattle.fp_term.specs.declared.signature.Signature.{Signature}
+use Rattle.std.proofs.lemmas.Option.{none-some}
 use Rattle.fp_term.specs.Names.{truth, function, equality}
-use Rattle.fp_term.specs.Types.{Typ, applied, none, more, type_eq}
+use Rattle.fp_term.specs.Types.{Typ}
 use Rattle.fp_term.specs.Terms.{Tm, bound, free, constant, app, abs}
-use Rattle.fp_term.specs.Typing.{type_under, function_type, type_of_app, bind, here_unless, ill_typed}
-use Rattle.fp_term.specs.Signatures.{arity_of, IsType, IsOver}
+use Rattle.fp_term.specs.Typing.{type_under, function_type, here_unless, ill_typed}
+use Rattle.fp_term.specs.Signatures.{arity_of}
 use Rattle.fp_term.specs.Variables.{type_names, type_names_in, is_among, first_beyond}
 use Rattle.fp_term.proofs.Equal.{type_eq-decides}
 use Rattle.fp_term.proofs.Known.{known, over_known}
 use Rattle.fp_term.proofs.Choices.{chosen}
+use Rattle.fp_term.proofs.Typed.{app_parts, abs_parts, typed_over}
 use Rattle.fp_kernel.specs.Definitions.{Def, new_constant}
-use Rattle.fp_kernel.specs.Logic.{equality_type, equal, alpha}
+use Rattle.fp_conclude.specs.Logic.{equality_type, equal, alpha}
 use Rattle.fp_kernel.specs.Start.{signature_of}
 use Rattle.fp_kernel.specs.Conservative.{AllAmong, IsNewConstant}
 use Rattle.fp_kernel.specs.Derivability.{first, IsFormula, Derives, constant_of}
@@ -69,64 +67,23 @@ made_new defs name body s e =
     }
 
 -- a term with a type has no ill-typed subterm
-both_typed : (o p : Option Typ) (s : Typ) → bind o (λ f. bind p (type_of_app f)) ≡ Some s → (f : Typ) × (x : Typ) × (o ≡ Some f) × (p ≡ Some x) × (type_of_app f x ≡ Some s)
-both_typed None p s e = absurd (none-some s e)
-both_typed (Some f) None s e = absurd (none-some s e)
-both_typed (Some f) (Some x) s e = (f, x, refl, refl, e)
-
-body_typed : (o : Option Typ) (s t : Typ) → bind o (λ u. Some (function_type s u)) ≡ Some t → (u : Typ) × (o ≡ Some u)
-body_typed None s t e = absurd (none-some t e)
-body_typed (Some u) s t e = (u, refl)
-
 well_placed : (env : List Typ) (t : Tm) (s : Typ) → type_under env t ≡ Some s → ill_typed env t ≡ None
 well_placed env (bound n) s e = ap here_unless e
 well_placed env (free a u) s e = refl
 well_placed env (constant a u) s e = refl
 well_placed env (app f x) s e =
-    let b = both_typed (type_under env f) (type_under env x) s e in
-    rw (well_placed env f b.0 b.2, well_placed env x b.1 b.3) (ap here_unless e)
+    let p = app_parts env f x s e in
+    rw (well_placed env f (function_type p.0 s) p.1, well_placed env x p.0 p.2) (ap here_unless e)
 well_placed env (abs u x) s e =
-    let b = body_typed (type_under (u ∷ env) x) u s e in
-    rw (well_placed (u ∷ env) x b.0 b.1) refl
+    let p = abs_parts env u x s e in
+    rw (well_placed (u ∷ env) x p.0 p.1) refl
 
 pub new_made : (defs : List Def) (name : List ℕ) (body : Tm) (s : Typ) → IsNewConstant defs name s body → defining defs name body ≡ made s
 new_made defs name body s h =
     rw (h.fresh, over_known (signature_of defs) body h.typed.over, well_placed [] body s h.typed.typed, h.typed.typed, h.closed, among_all (type_names s) (type_names_in body) h.shown) refl
 
--- the type of a term over a signature is one of the signature
-AllTypes : Signature → List Typ → Type 0
-AllTypes g [] = Unit {0}
-AllTypes g (s ∷ env) = IsType g s × AllTypes g env
-
-type_at : (g : Signature) (env : List Typ) (n : ℕ) (s : Typ) → AllTypes g env → slice_get env n ≡ Some s → IsType g s
-unfolding AllTypes
-type_at g [] n s h e = absurd (none-some s e)
-type_at g (t ∷ env) zero s h e = rw (← same_Some t s e) h.0
-type_at g (t ∷ env) (suc n) s h e = type_at g env n s h.1 e
-
-result_type : (g : Signature) (f x s : Typ) → IsType g f → type_of_app f x ≡ Some s → IsType g s
-result_type g (applied name (more from (more to none))) x s h e =
-    chosen (bytes_eq name function && type_eq from x) _ _ _ (IsType g s) (λ _ k. rw (← same_Some to s k) h.1.1.0) (λ _ k. absurd (none-some s k)) e
-result_type g _ x s h e = absurd (none-some s e)
-
-module _ (g : Signature) (fun_is : arity_of function g.types ≡ Some 2) where
-  typed_over : (env : List Typ) (t : Tm) (s : Typ) → AllTypes g env → IsOver g t → type_under env t ≡ Some s → IsType g s
-  unfolding AllTypes
-  typed_over env (bound n) s a h e = type_at g env n s a e
-  typed_over env (free name u) s a h e = rw (← same_Some u s e) h
-  typed_over env (constant name u) s a h e = rw (← same_Some u s e) h.1
-  typed_over env (app f x) s a h e =
-      let b = both_typed (type_under env f) (type_under env x) s e in
-      result_type g b.0 b.1 s (typed_over env f b.0 a h.0 b.2) b.4
-  typed_over env (abs u x) s a h e =
-      let b = body_typed (type_under (u ∷ env) x) u s e in
-      let inner = typed_over (u ∷ env) x b.0 (h.0, a) h.1 b.1 in
-      let same : function_type u b.0 ≡ s = same_Some _ _ (sym (ap (λ o. bind o (λ v. Some (function_type u v))) b.1) ∙ e) in
-      rw (← same) (fun_is, (h.0, (inner, tt)))
-
 -- the equation of a new constant is a formula over the list with it
 pub new_formula : (defs : List Def) (name : List ℕ) (body : Tm) (s : Typ) → IsNewConstant defs name s body → IsFormula (signature_of (new_constant name s body ∷ defs)) (equal s (constant name s) body)
-unfolding AllTypes
 new_formula defs name body s h =
     let g = signature_of (new_constant name s body ∷ defs) in
     let start = from_start (new_constant name s body ∷ defs) in
@@ -134,7 +91,7 @@ new_formula defs name body s h =
     let fun_is : arity_of function g.types ≡ Some 2 = start.types function 2 refl in
     let bool_is : arity_of truth g.types ≡ Some 0 = start.types truth 0 refl in
     let body_is = over_grows (signature_of defs) g more body h.typed.over in
-    let type_is = typed_over g fun_is [] body s tt body_is h.typed.typed in
+    let type_is = typed_over g fun_is body s body_is h.typed.typed in
     let own = (type_eq-decides s s).1 refl in
     record {
       typed = rw (own, h.typed.typed, own) refl;

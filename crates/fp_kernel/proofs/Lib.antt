@@ -1,2 +1,7 @@
 pub mod Growing
 pub mod Defined
+pub mod Formulas
+pub mod Later
+pub mod Promised
+pub mod Sound
+pub mod Premises

@@ -6,7 +6,7 @@ use Rattle.fp_term.specs.Typing.{type_under, ill_typed}
 use Rattle.fp_term.specs.Variables.{first_free_of, hidden_of}
 use Rattle.fp_term.specs.Signatures.{unknown_in}
 use Rattle.fp_kernel.specs.Definitions.{Def, new_constant}
-use Rattle.fp_kernel.specs.Logic.{equal}
+use Rattle.fp_conclude.specs.Logic.{equal}
 use Rattle.fp_kernel.specs.Start.{signature_of}
 use Rattle.fp_kernel.specs.Theorems.{Theorem}
 use Rattle.fp_term.specs.declared.typing.TypeOfFault.{TypeOfFault}

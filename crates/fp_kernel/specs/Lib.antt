@@ -1,5 +1,4 @@
 pub mod Definitions
-pub mod Logic
 pub mod Start
 pub mod Derivability
 pub mod Conservative

@@ -1,12 +1,12 @@
 -- The signature and the theorems of the start, and the signature of a list of definitions.
-use Rattle.std.specs.Prelude.{ℕ, List, [], ◌∷◌, ◌++◌, length, Option, Some, codes}
+use Rattle.std.specs.Prelude.{ℕ, ◌==◌, if◌then◌else◌, List, [], ◌∷◌, ◌++◌, length, Option, Some, codes}
 use Rattle.fp_term.specs.Names.{function, truth, equality}
 use Rattle.fp_term.specs.Types.{Typ, Typs, variable, applied, none, more}
 use Rattle.fp_term.specs.Terms.{Tm, bound, free, constant, app, abs}
 use Rattle.fp_term.specs.Typing.{type_under, function_type}
 use Rattle.fp_term.specs.declared.signature.Signature.{Signature}
 use Rattle.fp_kernel.specs.Definitions.{Def, new_constant, new_type}
-use Rattle.fp_kernel.specs.Logic.{truth_type, individuals, alpha, beta, predicate_type, binary_type, equality_type, select_type, quantifier_type, equal, select, true_constant, false_constant, connective, conjunction, implication, negation_constant, negation, quantifier, for_all, for_some}
+use Rattle.fp_conclude.specs.Logic.{truth_type, individuals, alpha, beta, predicate_type, binary_type, equality_type, select_type, quantifier_type, equal, select, true_constant, false_constant, connective, conjunction, implication, negation_constant, negation, quantifier, for_all, for_some}
 
 abbrev pub start_types : List (List ℕ × ℕ)
 start_types = (truth, 0) ∷ (function, 2) ∷ (codes "ind", 0) ∷ []
@@ -118,6 +118,20 @@ not_is = equal (predicate_type truth_type) negation_constant (abs truth_type (im
 
 abbrev pub connectives : List Tm
 connectives = true_is ∷ and_is ∷ imp_is ∷ all_is ∷ ex_is ∷ or_is ∷ false_is ∷ not_is ∷ []
+
+-- the axiom, and the connective's definition, of that number from 1
+abbrev pub axiom_numbered : ℕ → Tm
+axiom_numbered n = if n == 1 then eta else if n == 2 then selection else infinity
+
+abbrev pub connective_numbered : ℕ → Tm
+connective_numbered n =
+    if n == 1 then true_is else
+    (if n == 2 then and_is else
+    (if n == 3 then imp_is else
+    (if n == 4 then all_is else
+    (if n == 5 then ex_is else
+    (if n == 6 then or_is else
+    (if n == 7 then false_is else not_is))))))
 
 -- `abs (rep a) = a`, of a new type
 abbrev pub abs_rep : List ℕ → List (List ℕ) → Tm → List ℕ → List ℕ → Tm

@@ -1,5 +1,6 @@
 ghost use Rattle.std.specs.Prelude.{◌≡◌, [], ◌∷◌, IfOk};
 ghost use Rattle.fp_kernel.specs.Definitions.{new_constant};
+ghost use Rattle.fp_kernel.specs.Views.{def_seen};
 
 use fp_term::{Items, Name, Term, Ty};
 use std::alloc::{AllocError, Global};
@@ -24,6 +25,18 @@ pub enum Definition {
         abs: Name,
         rep: Name,
     },
+}
+
+fn constant(name: &Name, ty: &Ty, body: &Term) -> Result<Definition, AllocError>
+    ensures { IfOk result (λ d. def_seen d ≡ new_constant name.now ty.now body.now) }
+{
+    let name = name.copy()?;
+    let ty = ty.copy()?;
+    Ok(Definition::Constant {
+        name,
+        ty,
+        body: body.copy()?,
+    })
 }
 
 /// Definitions, the newest first. Lists share their older parts.
@@ -104,14 +117,14 @@ impl Definitions {
     pub fn with_constant(
         &self,
         alloc: Global,
-        name: Name,
-        ty: Ty,
-        body: Term,
+        name: &Name,
+        ty: &Ty,
+        body: &Term,
     ) -> Result<Definitions, AllocError>
-        ensures { IfOk result (λ d. d ≡ new_constant name ty body ∷ self.now) }
+        ensures { IfOk result (λ d. d ≡ new_constant name.now ty.now body.now ∷ self.now) }
     {
+        let newest = constant(name, ty, body)?;
         let older = self.copy()?;
-        let newest = Definition::Constant { name, ty, body };
         Ok(Definitions {
             link: Arc::new(alloc, Link::Then { newest, older })?,
         })

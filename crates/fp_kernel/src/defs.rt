@@ -1,19 +1,22 @@
-ghost use Rattle.std.specs.Prelude.{◌≡◌, [], ◌∷◌, length, IfOk, IfErr, OnOk, OnErr, MatchResult};
+ghost use Rattle.std.specs.Prelude.{◌≡◌, [], ◌∷◌, ◌++◌, length, IfOk, IfErr, OnOk, OnErr, MatchResult};
 ghost use Rattle.fp_term.specs.Types.{Typ};
 ghost use Rattle.fp_term.specs.Variables.{first_free_of, hidden_of};
-ghost use Rattle.fp_term.specs.Terms.{constant};
+ghost use Rattle.fp_term.specs.Terms.{Tm, constant};
 ghost use Rattle.fp_kernel.specs.Definitions.{new_constant};
-ghost use Rattle.fp_kernel.specs.Logic.{equal};
+ghost use Rattle.fp_conclude.specs.Logic.{equal};
 ghost use Rattle.fp_kernel.specs.Start.{signature_of};
+ghost use Rattle.fp_conclude.specs.Hypotheses.{IsSet};
+ghost use Rattle.fp_kernel.specs.Derivability.{Derives};
+ghost use Rattle.fp_kernel.specs.Theorems.{ArePromises};
 ghost use Rattle.fp_kernel.specs.Conservative.{IsConservative, IsNewConstant};
 ghost use Rattle.fp_kernel.specs.Defining.{defining, defining_theorem, made, unless, not_closed, hidden_type, FaultIs, Defines, MadeUnlessMemory};
 
 use crate::definition::Definitions;
 use crate::fault::{self, DefFault};
-use crate::logic::equation;
 use crate::start::start_signature;
 use crate::thm::Thm;
-use fp_term::{Name, Signature, Term, Ty, first_free, hidden_type, type_of};
+use fp_conclude::equation;
+use fp_term::{Items, Name, Signature, Term, Ty, first_free, hidden_type, type_of};
 use std::alloc::{AllocError, Global};
 use std::marker::Model;
 
@@ -56,6 +59,21 @@ fn closed_at(body: &Term, ty: Ty) -> Result<Ty, DefFault>
     Ok(ty)
 }
 
+// `name = body`
+fn defining_equation(alloc: Global, name: &Name, ty: &Ty, body: &Term) -> Result<Term, AllocError>
+    ensures { IfOk result (λ t. t ≡ equal ty.now (constant name.now ty.now) body.now) }
+{
+    let left = Term::constant(alloc, name.copy()?, ty.copy()?)?;
+    equation(alloc, ty, &left, body)
+}
+
+fn push_constant(signature: &mut Signature, name: &Name, ty: &Ty) -> Result<(), AllocError>
+    ensures ok { OnOk result ((signature.new.types ≡ signature.old.types) × (signature.new.consts ≡ signature.old.consts ++ (name.now, ty.now) ∷ [])) }
+    ensures err { OnErr result (signature.new ≡ signature.old) }
+{
+    signature.consts.push((name.copy()?, ty.copy()?))
+}
+
 impl Defs {
     /// No definitions.
     pub fn new(alloc: Global) -> Result<Defs, AllocError>
@@ -65,6 +83,18 @@ impl Defs {
             list: Definitions::start(alloc)?,
             level: 0,
             signature: start_signature(alloc)?,
+        })
+    }
+
+    /// An equal list.
+    pub fn copy(&self, alloc: Global) -> Result<Defs, AllocError>
+        ensures { IfOk result (λ d. d ≡ self.now) }
+    {
+        let signature = self.signature.copy(alloc)?;
+        Ok(Defs {
+            list: self.list.copy()?,
+            level: self.level,
+            signature,
         })
     }
 
@@ -83,6 +113,22 @@ impl Defs {
         self.level
     }
 
+    /// The theorem of these parts over this list.
+    pub(crate) fn theorem(
+        &self,
+        promises: Items<(u32, Term)>,
+        hyps: Items<Term>,
+        concl: Term,
+    ) -> Result<Thm, AllocError>
+        requires derived { Derives self.now promises hyps concl }
+        requires set { IsSet hyps }
+        requires promises_set { ArePromises promises }
+        ensures { IfOk result (λ th. th ≡ record { defs = self.now; promises = promises; hyps = hyps; concl = concl }) }
+    {
+        let defs = self.list.copy()?;
+        Ok(Thm::made(defs, self.level, promises, hyps, concl))
+    }
+
     // The type at which the constant can be defined.
     fn accepted(&self, alloc: Global, name: &Name, body: &Term) -> Result<Ty, DefFault>
         ensures outcome { MatchResult result (λ ty. defining self.now name.now body.now ≡ made ty) (λ fault. FaultIs fault (defining self.now name.now body.now)) }
@@ -99,53 +145,55 @@ impl Defs {
         closed_at(body, ty)
     }
 
-    // The list with the constant in front.
-    fn longer(
-        &self,
-        alloc: Global,
-        name: &Name,
-        ty: &Ty,
-        body: &Term,
-    ) -> Result<Definitions, AllocError>
-        ensures { IfOk result (λ list. list ≡ new_constant name.now ty.now body.now ∷ self.now) }
-    {
-        self.list
-            .with_constant(alloc, name.copy()?, ty.copy()?, body.copy()?)
-    }
-
-    // The theorem of the constant that is first in the list.
+    // The theorem of the constant that is first in the longer list.
     fn equation_of(
         &self,
         alloc: Global,
-        list: Definitions,
-        level: u32,
+        longer: &Definitions,
         name: &Name,
         ty: &Ty,
         body: &Term,
     ) -> Result<Thm, AllocError>
         requires new { IsNewConstant self.now name.now ty.now body.now }
-        requires first { list ≡ new_constant name.now ty.now body.now ∷ self.now }
-        requires counted { level ≡ length list }
+        requires first { longer.now ≡ new_constant name.now ty.now body.now ∷ self.now }
         ensures { IfOk result (λ th. th ≡ defining_theorem self.now name.now ty.now body.now) }
     {
-        let left = Term::constant(alloc, name.copy()?, ty.copy()?)?;
-        let concl = equation(alloc, ty, left, body)?;
+        let level = self.level.checked_add(1).ok_or(AllocError)?;
+        let list = longer.copy()?;
+        let concl = defining_equation(alloc, name, ty, body)?;
         Ok(Thm::plain(alloc, list, level, concl))
     }
 
-    // Puts the constant in front of the list, and gives its theorem.
-    fn add(&mut self, alloc: Global, name: &Name, ty: Ty, body: &Term) -> Result<Thm, AllocError>
-        requires { IsNewConstant self.old name.now ty body.now }
-        ensures ok { IfOk result (λ th. (self.new ≡ new_constant name.now ty body.now ∷ self.old) × (th ≡ defining_theorem self.old name.now ty body.now)) }
+    // Puts the constant in front of the list.
+    fn extend(
+        &mut self,
+        name: &Name,
+        ty: &Ty,
+        list: Definitions,
+        level: u32,
+    ) -> Result<(), AllocError>
+        requires longer { (body : Tm) × (list ≡ new_constant name.now ty.now body ∷ self.old) × IsNewConstant self.old name.now ty.now body }
+        requires counted { level ≡ length list }
+        ensures ok { OnOk result (self.new ≡ list) }
         ensures err { OnErr result (self.new ≡ self.old) }
         ensures conservative { IsConservative self.new }
     {
-        let level = self.level.checked_add(1).ok_or(AllocError)?;
-        let list = self.longer(alloc, name, &ty, body)?;
-        let theorem = self.equation_of(alloc, list.copy()?, level, name, &ty, body)?;
-        self.signature.consts.push((name.copy()?, ty))?;
+        push_constant(&mut self.signature, name, ty)?;
         self.list = list;
         self.level = level;
+        Ok(())
+    }
+
+    // Puts the constant in front of the list, and gives its theorem.
+    fn add(&mut self, alloc: Global, name: &Name, ty: &Ty, body: &Term) -> Result<Thm, AllocError>
+        requires { IsNewConstant self.old name.now ty.now body.now }
+        ensures ok { IfOk result (λ th. (self.new ≡ new_constant name.now ty.now body.now ∷ self.old) × (th ≡ defining_theorem self.old name.now ty.now body.now)) }
+        ensures err { OnErr result (self.new ≡ self.old) }
+        ensures conservative { IsConservative self.new }
+    {
+        let list = self.list.with_constant(alloc, name, ty, body)?;
+        let theorem = self.equation_of(alloc, &list, name, ty, body)?;
+        self.extend(name, ty, list, theorem.level())?;
         Ok(theorem)
     }
 
@@ -157,7 +205,7 @@ impl Defs {
         ensures conservative { IsConservative self.new }
     {
         let ty = self.accepted(alloc, name, body)?;
-        Ok(self.add(alloc, name, ty, body)?)
+        Ok(self.add(alloc, name, &ty, body)?)
     }
 
     /// Defines a constant by a closed term, and gives the theorem that they are equal. The refusals are tried in the

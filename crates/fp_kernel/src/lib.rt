@@ -1,15 +1,18 @@
 //! Definitions and theorems of higher-order logic: whoever holds a theorem holds something derivable.
 #![tactic(auto)]
 
+mod axioms;
+mod connectives;
 mod definition;
 mod defs;
 mod fault;
-mod logic;
+mod promises;
+mod rules;
 mod start;
 mod thm;
 
 pub use definition::{Definition, Definitions};
 pub use defs::Defs;
 pub use fault::DefFault;
-pub use logic::{equality_at, equation, predicate_over, truth_type};
+pub use fp_conclude::{RuleFault, equality_at, equation, predicate_over, truth_type};
 pub use thm::Thm;

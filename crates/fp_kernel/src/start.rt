@@ -1,10 +1,12 @@
 ghost use Rattle.std.specs.Prelude.{◌≡◌, [], ◌∷◌, ◌++◌, IfOk, IsTrue};
 ghost use Rattle.fp_term.specs.Names.{is_name, truth, function};
-ghost use Rattle.fp_kernel.specs.Logic.{alpha, predicate_type, binary_type, truth_type, select_type, quantifier_type};
+ghost use Rattle.fp_conclude.specs.Logic.{alpha, predicate_type, binary_type, truth_type, select_type, quantifier_type};
 ghost use Rattle.fp_kernel.specs.Start.{start_types, start_constants, start_truths, start_connectives, start_quantifiers};
 
-use crate::logic::{equality_type, predicate_over, truth_type};
-use fp_term::{Items, Name, Signature, Ty, equality_name, function_name, function_of, truth_name};
+use fp_conclude::{
+    alpha, binary_truth, equality_type, predicate_over, quantifier_type, select_type, truth_type,
+};
+use fp_term::{Items, Name, Signature, Ty, equality_name, function_name, truth_name};
 use std::alloc::{AllocError, Global};
 
 fn add_type(types: &mut Items<(Name, u32)>, name: Name, arity: u32) -> Result<(), AllocError>
@@ -25,35 +27,6 @@ fn add_constant(
     consts.push((Name::of(alloc, name)?, ty))
 }
 
-// The type variable `'a`.
-#[tactic(auto, unfolding(fp_term::specs::Names::is_name))]
-fn alpha(alloc: Global) -> Result<Ty, AllocError>
-    ensures { IfOk result (λ ty. ty ≡ alpha) }
-{
-    Ty::var(alloc, Name::of(alloc, b"a")?)
-}
-
-fn binary_truth(alloc: Global) -> Result<Ty, AllocError>
-    ensures { IfOk result (λ ty. ty ≡ binary_type truth_type truth_type) }
-{
-    let predicate = predicate_over(alloc, &truth_type(alloc)?)?;
-    function_of(alloc, truth_type(alloc)?, predicate)
-}
-
-fn select_type(alloc: Global) -> Result<Ty, AllocError>
-    ensures { IfOk result (λ ty. ty ≡ select_type alpha) }
-{
-    let predicate = predicate_over(alloc, &alpha(alloc)?)?;
-    function_of(alloc, predicate, alpha(alloc)?)
-}
-
-fn quantifier_type(alloc: Global) -> Result<Ty, AllocError>
-    ensures { IfOk result (λ ty. ty ≡ quantifier_type alpha) }
-{
-    let predicate = predicate_over(alloc, &alpha(alloc)?)?;
-    predicate_over(alloc, &predicate)
-}
-
 #[tactic(auto, unfolding(fp_term::specs::Names::is_name))]
 fn start_types(alloc: Global) -> Result<Items<(Name, u32)>, AllocError>
     ensures { IfOk result (λ types. types ≡ start_types) }
@@ -71,7 +44,12 @@ fn add_truths(alloc: Global, consts: &mut Items<(Name, Ty)>) -> Result<(), Alloc
     ensures { IfOk result (λ _. consts.new ≡ consts.old ++ start_truths) }
 {
     consts.push((equality_name(alloc)?, equality_type(alloc, &alpha(alloc)?)?))?;
-    add_constant(alloc, consts, b"select", select_type(alloc)?)?;
+    add_constant(
+        alloc,
+        consts,
+        b"select",
+        select_type(alloc, &alpha(alloc)?)?,
+    )?;
     add_constant(alloc, consts, b"T", truth_type(alloc)?)?;
     add_constant(alloc, consts, b"F", truth_type(alloc)?)
 }
@@ -91,8 +69,18 @@ fn add_connectives(alloc: Global, consts: &mut Items<(Name, Ty)>) -> Result<(), 
 fn add_quantifiers(alloc: Global, consts: &mut Items<(Name, Ty)>) -> Result<(), AllocError>
     ensures { IfOk result (λ _. consts.new ≡ consts.old ++ start_quantifiers) }
 {
-    add_constant(alloc, consts, b"all", quantifier_type(alloc)?)?;
-    add_constant(alloc, consts, b"ex", quantifier_type(alloc)?)
+    add_constant(
+        alloc,
+        consts,
+        b"all",
+        quantifier_type(alloc, &alpha(alloc)?)?,
+    )?;
+    add_constant(
+        alloc,
+        consts,
+        b"ex",
+        quantifier_type(alloc, &alpha(alloc)?)?,
+    )
 }
 
 fn start_constants(alloc: Global) -> Result<Items<(Name, Ty)>, AllocError>

@@ -1,8 +1,11 @@
 ghost use Rattle.std.specs.Prelude.{◌≡◌, [], length, IfOk};
-ghost use Rattle.fp_kernel.specs.Theorems.{IsTheorem};
-ghost use Rattle.fp_kernel.specs.Derivability.{Derives};
+ghost use Rattle.fp_conclude.specs.Hypotheses.{IsSet};
+ghost use Rattle.fp_kernel.specs.Theorems.{IsTheorem, ArePromises};
+ghost use Rattle.fp_kernel.specs.Start.{signature_of};
+ghost use Rattle.fp_kernel.specs.Derivability.{Derives, IsFormula, AreFormulas};
 
 use crate::definition::Definitions;
+use crate::promises::copy_promises;
 use fp_term::{Items, Statement, Term, copy_all};
 use std::alloc::{AllocError, Global};
 use std::marker::Model;
@@ -19,7 +22,8 @@ pub struct Thm {
 
 impl Model for Thm {
     ghost use Rattle.std.specs.Prelude.{◌≡◌, length};
-    ghost use Rattle.fp_kernel.specs.Theorems.{Theorem};
+    ghost use Rattle.fp_conclude.specs.Hypotheses.{IsSet};
+    ghost use Rattle.fp_kernel.specs.Theorems.{Theorem, ArePromises};
     ghost use Rattle.fp_kernel.specs.Derivability.{Derives};
     ghost use Rattle.fp_kernel.specs.Codes.{coded_theorem};
 
@@ -29,7 +33,7 @@ impl Model for Thm {
 
     ghost view = { λ t. record { defs = t.defs; promises = t.promises; hyps = t.hyps; concl = t.concl } };
 
-    ghost invariant = { λ t. Derives t.defs t.promises t.hyps t.concl × (t.level ≡ length t.defs) };
+    ghost invariant = { λ t. Derives t.defs t.promises t.hyps t.concl × (t.level ≡ length t.defs) × IsSet t.hyps × ArePromises t.promises };
 }
 
 impl Thm {
@@ -48,24 +52,63 @@ impl Thm {
         }
     }
 
-    /// What is concluded.
+    /// The theorem of these parts.
+    pub(crate) fn made(
+        defs: Definitions,
+        level: u32,
+        promises: Items<(u32, Term)>,
+        hyps: Items<Term>,
+        concl: Term,
+    ) -> Thm
+        requires derived { Derives defs promises hyps concl }
+        requires counted { level ≡ length defs }
+        requires set { IsSet hyps }
+        requires promises_set { ArePromises promises }
+        ensures { result ≡ record { defs = defs; promises = promises; hyps = hyps; concl = concl } }
+    {
+        Thm {
+            defs,
+            level,
+            promises,
+            hyps,
+            concl,
+        }
+    }
+
+    /// An equal theorem, over the same definitions.
+    pub fn copy(&self, alloc: Global) -> Result<Thm, AllocError>
+        ensures { IfOk result (λ th. th ≡ self.now) }
+    {
+        let promises = copy_promises(alloc, self.promises.as_slice())?;
+        let hyps = copy_all(alloc, self.hyps.as_slice())?;
+        let concl = self.concl.copy()?;
+        Ok(Thm::made(self.defs.copy()?, self.level, promises, hyps, concl))
+    }
+
+    /// What is concluded: a formula, derivable from the hypotheses and the promises.
+    #[tactic(auto, using(crate::proofs::Formulas::formula_of))]
     pub fn concl(&self) -> &Term
         ensures value { result.now ≡ self.now.concl }
         ensures derived { IsTheorem self.now }
+        ensures formula { IsFormula (signature_of self.now.defs) self.now.concl }
     {
         &self.concl
     }
 
-    /// What it is concluded from.
+    /// The formulas that it is concluded from, none twice.
+    #[tactic(auto, using(crate::proofs::Formulas::formulas_of))]
     pub fn hyps(&self) -> &[Term]
-        ensures { result.now ≡ self.now.hyps }
+        ensures value { result.now ≡ self.now.hyps }
+        ensures formulas { AreFormulas (signature_of self.now.defs) self.now.hyps }
+        ensures set { IsSet self.now.hyps }
     {
         self.hyps.as_slice()
     }
 
-    /// The formulas that it takes for granted, each with its number.
+    /// The formulas that it takes for granted, each with its number, none twice.
     pub fn promises(&self) -> &[(u32, Term)]
-        ensures { result.now ≡ self.now.promises }
+        ensures value { result.now ≡ self.now.promises }
+        ensures set { ArePromises self.now.promises }
     {
         self.promises.as_slice()
     }

@@ -27,7 +27,7 @@ counted None n e = cc
 counted (Some arity) n e = ap Some (sym ((Decides-eqb n arity).0 e))
 
 mutual
-  type_known : (s : Signature) (t : Typ) → unknown_in_type s t ≡ None → IsType s t
+  pub type_known : (s : Signature) (t : Typ) → unknown_in_type s t ≡ None → IsType s t
   type_known s (variable name) e = tt
   type_known s (applied name args) e =
       let p = untested _ (unknown_in_types s args) name e in
@@ -40,7 +40,7 @@ mutual
       (type_known s t p.0, types_known s ts p.1)
 
 mutual
-  known_type : (s : Signature) (t : Typ) → IsType s t → unknown_in_type s t ≡ None
+  pub known_type : (s : Signature) (t : Typ) → IsType s t → unknown_in_type s t ≡ None
   known_type s (variable name) h = refl
   known_type s (applied name args) h = rw (h.0, (Decides-eqb (count args) (count args)).1 refl) (known_types s args h.1)
 
@@ -76,3 +76,6 @@ over_known s (abs t x) h = rw (known_type s t h.0) (over_known s x h.1)
 
 pub unknown_outside : (s : Signature) (t : Tm) (name : List ℕ) → unknown_in s t ≡ Some name → IsOver s t → ⊥
 unknown_outside s t name e h = none-some name (sym (over_known s t h) ∙ e)
+
+pub unknown_type_outside : (s : Signature) (t : Typ) (name : List ℕ) → unknown_in_type s t ≡ Some name → IsType s t → ⊥
+unknown_type_outside s t name e h = none-some name (sym (known_type s t h) ∙ e)

@@ -1,5 +1,5 @@
 -- What the typing of a term answers.
-use Rattle.std.specs.Prelude.{◌≡◌, ℕ, List, [], ◌∷◌, Some, None, Result, Ok, Err}
+use Rattle.std.specs.Prelude.{◌≡◌, ℕ, List, [], ◌∷◌, Option, Some, None, Result, Ok, Err}
 use Rattle.fp_term.specs.Types.{Typ}
 use Rattle.fp_term.specs.Terms.{Tm}
 use Rattle.fp_term.specs.Typing.{type_under, ill_typed}
@@ -25,6 +25,12 @@ pub record HasType (env : List Typ) (t : Tm) (s : Typ) : Type 0 where
 abbrev pub TypeAnswer : List Typ → Tm → Result Typ TypeOfFault → Type 0
 TypeAnswer env t (Ok s) = HasType env t s
 TypeAnswer env t (Err fault) = FaultOf env t fault
+
+-- the type of an application, if there is one
+abbrev pub AppliedAnswer : Option Typ → Result Typ TypeOfFault → Type 0
+AppliedAnswer o (Ok s) = o ≡ Some s
+AppliedAnswer o (Err (IllTyped place)) = (o ≡ None) × (place ≡ [])
+AppliedAnswer o (Err NoMemory) = Unit {0}
 
 -- what a fault is, seen from one step above its term
 abbrev pub StepOf : ℕ → TypeOfFault → TypeOfFault → Type 0

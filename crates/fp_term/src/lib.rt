@@ -19,7 +19,7 @@ pub use name::{Name, equality_name, function_name, truth_name};
 pub use place::Place;
 pub use signature::Signature;
 pub use statement::{Statement, copy_all};
-pub use substitute::{close_over, inst, open_with};
+pub use substitute::{close_over, inst, inst_ty, open_with};
 pub use term::{Node, Term, depth, nodes, same};
 pub use ty::{Ty, TyNode, Tys, TysNode};
 pub use typing::{TypeOfFault, function_of, type_of};

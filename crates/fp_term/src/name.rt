@@ -99,6 +99,12 @@ impl Name {
         self.bytes.as_slice() == b"fun".as_slice()
     }
 
+    pub fn is_truth(&self) -> bool
+        ensures { result ≡ bytes_eq self.now truth }
+    {
+        self.bytes.as_slice() == b"bool".as_slice()
+    }
+
     pub fn equals(&self, other: &Name) -> bool
         ensures { result ≡ bytes_eq self.now other.now }
     {

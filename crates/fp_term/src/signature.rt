@@ -31,8 +31,38 @@ fn is_instance_of(alloc: Global, declared: &Ty, ty: &Ty) -> Result<bool, AllocEr
     Ok(match_ty(alloc, declared, ty)?.is_some())
 }
 
+fn copy_arities(alloc: Global, pairs: &[(Name, u32)]) -> Result<Items<(Name, u32)>, AllocError>
+    ensures { IfOk result (λ copies. copies ≡ pairs.now) }
+{
+    let mut copies = Items::new(alloc);
+    for pair in pairs {
+        copies.push((pair.0.copy()?, pair.1))?;
+    }
+    Ok(copies)
+}
+
+fn copy_constants(alloc: Global, pairs: &[(Name, Ty)]) -> Result<Items<(Name, Ty)>, AllocError>
+    ensures { IfOk result (λ copies. copies ≡ pairs.now) }
+{
+    let mut copies = Items::new(alloc);
+    for pair in pairs {
+        copies.push((pair.0.copy()?, pair.1.copy()?))?;
+    }
+    Ok(copies)
+}
+
 impl Signature {
-    ghost use Rattle.fp_term.specs.Signatures.{arity_of, has_count, has_instance, unknown_in, unknown_in_type, unknown_in_types, IsOver};
+    ghost use Rattle.fp_term.specs.Signatures.{arity_of, has_count, has_instance, unknown_in, unknown_in_type, unknown_in_types, IsType, IsOver};
+
+    /// An equal signature.
+    pub fn copy(&self, alloc: Global) -> Result<Signature, AllocError>
+        ensures { IfOk result (λ signature. signature ≡ self.now) }
+    {
+        Ok(Signature {
+            types: copy_arities(alloc, self.types.as_slice())?,
+            consts: copy_constants(alloc, self.consts.as_slice())?,
+        })
+    }
 
     /// How many arguments the type constructor has.
     pub fn arity(&self, name: &Name) -> Option<u32>
@@ -62,9 +92,12 @@ impl Signature {
         }
     }
 
+    /// The type's first constructor from the left that isn't in the signature with so many arguments.
     #[cycle(unknown)]
-    fn unknown_in_type<'a>(&self, ty: &'a Ty) -> Option<&'a Name>
-        ensures { option_copied result ≡ unknown_in_type self.now ty.now }
+    #[tactic(auto, using(crate::proofs::Known::type_known, crate::proofs::Known::unknown_type_outside))]
+    pub fn unknown_in_type<'a>(&self, ty: &'a Ty) -> Option<&'a Name>
+        ensures exact { option_copied result ≡ unknown_in_type self.now ty.now }
+        ensures over { MatchOption result (IsType self.now ty.now) (λ _. IsType self.now ty.now → ⊥) }
     {
         match ty.node() {
             TyNode::Var(_) => None,

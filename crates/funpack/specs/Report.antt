@@ -7,7 +7,7 @@ use Rattle.fp_outside.specs.Sink.{AppendsPrefix}
 use Rattle.fp_term.specs.Types.{Typ}
 use Rattle.fp_term.specs.Terms.{Tm, constant}
 use Rattle.fp_kernel.specs.Definitions.{Def, new_constant}
-use Rattle.fp_kernel.specs.Logic.{equal}
+use Rattle.fp_conclude.specs.Logic.{equal}
 use Rattle.fp_kernel.specs.Derivability.{Derives}
 use Rattle.fp_kernel.specs.Conservative.{IsConservative}
 use Rattle.fp_kernel.specs.Defining.{Refusal, defining, made, refused}

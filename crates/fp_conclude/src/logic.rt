@@ -1,7 +1,7 @@
 ghost use Rattle.std.specs.Prelude.{◌≡◌, IfOk};
-ghost use Rattle.fp_term.specs.Names.{equality};
-ghost use Rattle.fp_term.specs.Terms.{constant, app};
-ghost use Rattle.fp_kernel.specs.Logic.{truth_type, predicate_type, equality_type, equal};
+ghost use Rattle.fp_term.specs.Names.{equality, truth};
+ghost use Rattle.fp_term.specs.Terms.{constant, app, abs};
+ghost use Rattle.fp_conclude.specs.Logic.{truth_type, predicate_type, equality_type, equal};
 
 use fp_term::{Name, Term, Ty, Tys, equality_name, function_of, truth_name};
 use std::alloc::{AllocError, Global};
@@ -21,7 +21,7 @@ pub fn predicate_over(alloc: Global, ty: &Ty) -> Result<Ty, AllocError>
 }
 
 /// The type of equality on values of a type.
-pub(crate) fn equality_type(alloc: Global, ty: &Ty) -> Result<Ty, AllocError>
+pub fn equality_type(alloc: Global, ty: &Ty) -> Result<Ty, AllocError>
     ensures { IfOk result (λ t. t ≡ equality_type ty.now) }
 {
     let predicate = predicate_over(alloc, ty)?;
@@ -36,11 +36,25 @@ pub fn equality_at(alloc: Global, ty: &Ty) -> Result<Term, AllocError>
     Term::constant(alloc, equality_name(alloc)?, of_equality)
 }
 
+/// A term applied to another.
+pub fn apply(alloc: Global, fun: &Term, arg: &Term) -> Result<Term, AllocError>
+    ensures { IfOk result (λ t. t ≡ app fun.now arg.now) }
+{
+    Term::app(alloc, fun.copy()?, arg.copy()?)
+}
+
+/// A term applied to two others.
+pub fn apply_both(alloc: Global, fun: &Term, left: &Term, right: &Term) -> Result<Term, AllocError>
+    ensures { IfOk result (λ t. t ≡ app (app fun.now left.now) right.now) }
+{
+    let applied = apply(alloc, fun, left)?;
+    apply(alloc, &applied, right)
+}
+
 /// The equation of two terms of the type.
-pub fn equation(alloc: Global, ty: &Ty, left: Term, right: &Term) -> Result<Term, AllocError>
-    ensures { IfOk result (λ t. t ≡ equal ty.now left right.now) }
+pub fn equation(alloc: Global, ty: &Ty, left: &Term, right: &Term) -> Result<Term, AllocError>
+    ensures { IfOk result (λ t. t ≡ equal ty.now left.now right.now) }
 {
     let equality = equality_at(alloc, ty)?;
-    let applied = Term::app(alloc, equality, left)?;
-    Term::app(alloc, applied, right.copy()?)
+    apply_both(alloc, &equality, left, right)
 }

@@ -1,0 +1,5 @@
+pub mod Outcomes
+pub mod Equations
+pub mod Checked
+pub mod Sets
+pub mod Gives

@@ -1,0 +1,25 @@
+//! Formulas of the logic, and what its rules conclude from the conclusions of their premises.
+#![tactic(auto)]
+
+mod checks;
+mod conclude;
+mod fault;
+mod formula;
+mod hypotheses;
+mod logic;
+mod parts;
+mod substitution;
+
+pub use conclude::{assume, beta, eq_mp, lam, mk_comb, refl, trans};
+pub use fault::RuleFault;
+pub use formula::{
+    abstraction, alpha, beta_variable, binary_truth, conjunction, connective, false_constant,
+    for_all, for_some, implication, individuals, negation, negation_constant, quantifier,
+    quantifier_type, select, select_type, true_constant,
+};
+pub use hypotheses::{all_instances, all_retyped, occurs, occurs_in_any, single, union, without};
+pub use logic::{
+    apply, apply_both, equality_at, equality_type, equation, predicate_over, truth_type,
+};
+pub use parts::{Equation, function_parts, is_truth, redex_parts, sides};
+pub use substitution::{inst, inst_ty};

@@ -1,0 +1,49 @@
+-- Promises without repeats stay so with those of another theorem.
+use Rattle.std.proofs.Common.{◌≡◌, ℕ, Bool, true, false, cond, ◌&&◌, ◌||◌, ◌==◌, List, [], ◌∷◌, ◌++◌, refl, sym, ap}
+use Rattle.std.proofs.lemmas.Bool.Decides.{Decides-eqb}
+use Rattle.fp_term.specs.Terms.{Tm, term_eq}
+use Rattle.fp_term.proofs.Equal.{term_eq-decides}
+use Rattle.fp_kernel.specs.Theorems.{promised, ArePromises, promise_union}
+
+neither : (a b : Bool) → (a || b) ≡ false → (a ≡ false) × (b ≡ false)
+neither true b e = cc
+neither false b e = (refl, e)
+
+both_false : (a b : Bool) → a ≡ false → b ≡ false → (a || b) ≡ false
+both_false a b e f = rw e f
+
+both_of : (a b : Bool) → (a && b) ≡ true → (a ≡ true) × (b ≡ true)
+both_of true b e = (refl, e)
+both_of false b e = cc
+
+abbrev alike : ℕ × Tm → ℕ × Tm → Bool
+alike p q = p.0 == q.0 && term_eq p.1 q.1
+
+alike_back : (p q : ℕ × Tm) → alike p q ≡ true → alike q p ≡ true
+alike_back p q e =
+    let b = both_of (p.0 == q.0) (term_eq p.1 q.1) e in
+    rw ((Decides-eqb q.0 p.0).1 (sym ((Decides-eqb p.0 q.0).0 b.0))) ((term_eq-decides q.1 p.1).1 (sym ((term_eq-decides p.1 q.1).0 b.1)))
+
+apart_by : (p q : ℕ × Tm) (b : Bool) → alike p q ≡ b → alike q p ≡ false → alike p q ≡ false
+apart_by p q true e f = let g = alike_back p q e in cc
+apart_by p q false e f = e
+
+promised_append : (p : ℕ × Tm) (promises : List (ℕ × Tm)) (q : ℕ × Tm) → promised p promises ≡ false → alike p q ≡ false → promised p (promises ++ q ∷ []) ≡ false
+promised_append p [] q e f = both_false (alike p q) false f refl
+promised_append p (r ∷ promises) q e f =
+    let a = neither (alike p r) (promised p promises) e in
+    both_false (alike p r) (promised p (promises ++ q ∷ [])) a.0 (promised_append p promises q a.1 f)
+
+set_append : (promises : List (ℕ × Tm)) (q : ℕ × Tm) → ArePromises promises → promised q promises ≡ false → ArePromises (promises ++ q ∷ [])
+set_append [] q h e = (refl, tt)
+set_append (p ∷ promises) q h e =
+    let a = neither (alike q p) (promised q promises) e in
+    (promised_append p promises q h.0 (apart_by p q (alike p q) refl a.0), set_append promises q h.1 a.1)
+
+set_unless : (b : Bool) (promises : List (ℕ × Tm)) (q : ℕ × Tm) → promised q promises ≡ b → ArePromises promises → ArePromises (cond b promises (promises ++ q ∷ []))
+set_unless true promises q e h = h
+set_unless false promises q e h = set_append promises q h e
+
+pub promises_set : (promises more : List (ℕ × Tm)) → ArePromises promises → ArePromises (promise_union promises more)
+promises_set promises [] h = h
+promises_set promises (q ∷ more) h = promises_set (cond (promised q promises) promises (promises ++ q ∷ [])) more (set_unless (promised q promises) promises q refl h)

@@ -1,0 +1,117 @@
+ghost use Rattle.std.specs.Prelude.{◌≡◌, ◌≤◌, codes, IfOk, IsTrue};
+ghost use Rattle.fp_term.specs.Names.{is_name};
+ghost use Rattle.fp_term.specs.Terms.{bound, free, app, abs};
+ghost use Rattle.fp_term.specs.Typing.{function_type};
+ghost use Rattle.fp_conclude.specs.Logic.{alpha, beta, individuals, predicate_type, equal, conjunction, implication, negation, for_all, for_some, select};
+ghost use Rattle.fp_kernel.specs.Start.{eta, selection, infinity, axiom_numbered};
+
+use fp_conclude::{
+    abstraction, alpha, apply, beta_variable, conjunction, equation, for_all, for_some,
+    implication, individuals, negation, predicate_over, select,
+};
+use fp_term::{Name, Term, Ty, function_of};
+use std::alloc::{AllocError, Global};
+
+fn variable(alloc: Global, name: &[u8], ty: &Ty) -> Result<Term, AllocError>
+    requires { IsTrue (is_name name.now) }
+    ensures { IfOk result (λ t. t ≡ free name.now ty.now) }
+{
+    Term::free(alloc, Name::of(alloc, name)?, ty.copy()?)
+}
+
+// `(%x. t x) = t`
+#[tactic(auto, unfolding(fp_term::specs::Names::is_name))]
+fn eta(alloc: Global) -> Result<Term, AllocError>
+    ensures { IfOk result (λ t. t ≡ eta) }
+{
+    let ty = function_of(alloc, alpha(alloc)?, beta_variable(alloc)?)?;
+    let function = variable(alloc, b"t", &ty)?;
+    let expanded = expanded(alloc, &function)?;
+    equation(alloc, &ty, &expanded, &function)
+}
+
+// `%x. t x`
+fn expanded(alloc: Global, function: &Term) -> Result<Term, AllocError>
+    ensures { IfOk result (λ t. t ≡ abs alpha (app function.now (bound 0))) }
+{
+    let body = apply(alloc, function, &Term::bound(alloc, 0)?)?;
+    abstraction(alloc, &alpha(alloc)?, &body)
+}
+
+// `P x --> P (select P)`
+#[tactic(auto, unfolding(fp_term::specs::Names::is_name))]
+fn selection(alloc: Global) -> Result<Term, AllocError>
+    ensures { IfOk result (λ t. t ≡ selection) }
+{
+    let ty = alpha(alloc)?;
+    let predicate = variable(alloc, b"P", &predicate_over(alloc, &ty)?)?;
+    let given = apply(alloc, &predicate, &variable(alloc, b"x", &ty)?)?;
+    let selected = apply(alloc, &predicate, &select(alloc, &ty, &predicate)?)?;
+    implication(alloc, &given, &selected)
+}
+
+// A bound function applied to a bound number.
+fn value(alloc: Global, function: u32, argument: u32) -> Result<Term, AllocError>
+    ensures { IfOk result (λ t. t ≡ app (bound function) (bound argument)) }
+{
+    let function = Term::bound(alloc, function)?;
+    apply(alloc, &function, &Term::bound(alloc, argument)?)
+}
+
+// `f x = f y`, where the numbers 2, 1 and 0 stand for `f`, `x` and `y`
+fn same_value(alloc: Global) -> Result<Term, AllocError>
+    ensures { IfOk result (λ t. t ≡ equal individuals (app (bound 2) (bound 1)) (app (bound 2) (bound 0))) }
+{
+    let ty = individuals(alloc)?;
+    let left = value(alloc, 2, 1)?;
+    equation(alloc, &ty, &left, &value(alloc, 2, 0)?)
+}
+
+// `x = y`, where the numbers 1 and 0 stand for `x` and `y`
+fn same_argument(alloc: Global) -> Result<Term, AllocError>
+    ensures { IfOk result (λ t. t ≡ equal individuals (bound 1) (bound 0)) }
+{
+    let ty = individuals(alloc)?;
+    let left = Term::bound(alloc, 1)?;
+    equation(alloc, &ty, &left, &Term::bound(alloc, 0)?)
+}
+
+// `!x y. f x = f y --> x = y`, where the number 2 in the innermost place stands for `f`
+fn injective(alloc: Global) -> Result<Term, AllocError>
+    ensures { IfOk result (λ t. t ≡ for_all individuals (for_all individuals (implication (equal individuals (app (bound 2) (bound 1)) (app (bound 2) (bound 0))) (equal individuals (bound 1) (bound 0))))) }
+{
+    let body = implication(alloc, &same_value(alloc)?, &same_argument(alloc)?)?;
+    let ty = individuals(alloc)?;
+    let inner = for_all(alloc, &ty, &body)?;
+    for_all(alloc, &ty, &inner)
+}
+
+// `~ (!y. ?x. y = f x)`, where the number 2 in the innermost place stands for `f`
+fn not_onto(alloc: Global) -> Result<Term, AllocError>
+    ensures { IfOk result (λ t. t ≡ negation (for_all individuals (for_some individuals (equal individuals (bound 1) (app (bound 2) (bound 0)))))) }
+{
+    let ty = individuals(alloc)?;
+    let met = equation(alloc, &ty, &Term::bound(alloc, 1)?, &value(alloc, 2, 0)?)?;
+    let some = for_some(alloc, &ty, &met)?;
+    negation(alloc, &for_all(alloc, &ty, &some)?)
+}
+
+// `?f. (!x y. f x = f y --> x = y) /\ ~ (!y. ?x. y = f x)`
+fn infinity(alloc: Global) -> Result<Term, AllocError>
+    ensures { IfOk result (λ t. t ≡ infinity) }
+{
+    let body = conjunction(alloc, &injective(alloc)?, &not_onto(alloc)?)?;
+    let ty = function_of(alloc, individuals(alloc)?, individuals(alloc)?)?;
+    for_some(alloc, &ty, &body)
+}
+
+/// The axiom of that number: ETA, SELECT, INFINITY.
+pub fn axiom(alloc: Global, number: u32) -> Result<Term, AllocError>
+    ensures { IfOk result (λ t. t ≡ axiom_numbered number) }
+{
+    match number {
+        1 => eta(alloc),
+        2 => selection(alloc),
+        _ => infinity(alloc),
+    }
+}

@@ -1,0 +1,232 @@
+ghost use Rattle.std.specs.Prelude.{◌≡◌, ◌≤◌, [], ◌∷◌, IfOk};
+ghost use Rattle.fp_conclude.specs.Logic.{truth_type, equal};
+ghost use Rattle.fp_conclude.specs.Hypotheses.{IsSet, union, without, all_replaced, all_retyped_terms};
+ghost use Rattle.fp_conclude.specs.Outcomes.{Answers, gives};
+ghost use Rattle.fp_conclude.specs.Rules.{refl_of, trans_of, mk_comb_of, lam_of, beta_of, assume_of, eq_mp_of, inst_of, inst_ty_of};
+ghost use Rattle.fp_kernel.specs.Definitions.{Within};
+ghost use Rattle.fp_kernel.specs.Start.{signature_of, axiom_numbered, connective_numbered};
+ghost use Rattle.fp_kernel.specs.Derivability.{Derives};
+ghost use Rattle.fp_kernel.specs.Theorems.{promise_union, stands, from_one, from_two, from_both};
+
+use crate::defs::Defs;
+use crate::promises::{copy_promises, promise_union};
+use crate::thm::Thm;
+use crate::{axioms, connectives};
+use fp_conclude::{
+    self, RuleFault, all_instances, all_retyped, equation, single, truth_type, union, without,
+};
+use fp_term::{Items, Name, Term, Ty, copy_all};
+use std::alloc::{AllocError, Global};
+
+// The hypotheses of the one theorem but the other's conclusion, and then the other's but the one's.
+fn remaining(alloc: Global, first: &Thm, second: &Thm) -> Result<Items<Term>, AllocError>
+    ensures value { IfOk result (λ hyps. hyps ≡ union (without second.now.concl first.now.hyps) (without first.now.concl second.now.hyps)) }
+    ensures set { IfOk result (λ hyps. IsSet hyps) }
+{
+    let left = without(alloc, second.concl(), first.hyps())?;
+    let right = without(alloc, first.concl(), second.hyps())?;
+    let hyps = union(alloc, left.as_slice(), right.as_slice())?;
+    Ok(hyps)
+}
+
+// `p = q`, for formulas.
+fn equivalence(alloc: Global, left: &Term, right: &Term) -> Result<Term, AllocError>
+    ensures { IfOk result (λ t. t ≡ equal truth_type left.now right.now) }
+{
+    let ty = truth_type(alloc)?;
+    equation(alloc, &ty, left, right)
+}
+
+impl Defs {
+    // The theorem without promises.
+    fn plain(&self, alloc: Global, hyps: Items<Term>, concl: Term) -> Result<Thm, AllocError>
+        requires derived { Derives self.now [] hyps concl }
+        requires set { IsSet hyps }
+        ensures { IfOk result (λ th. th ≡ record { defs = self.now; promises = []; hyps = hyps; concl = concl }) }
+    {
+        self.theorem(Items::new(alloc), hyps, concl)
+    }
+
+    // The theorem with the promises of another.
+    fn over_one(
+        &self,
+        alloc: Global,
+        given: &Thm,
+        hyps: Items<Term>,
+        concl: Term,
+    ) -> Result<Thm, AllocError>
+        requires derived { Derives self.now given.now.promises hyps concl }
+        requires set { IsSet hyps }
+        ensures { IfOk result (λ th. th ≡ record { defs = self.now; promises = given.now.promises; hyps = hyps; concl = concl }) }
+    {
+        let promises = copy_promises(alloc, given.promises())?;
+        self.theorem(promises, hyps, concl)
+    }
+
+    // The theorem with the promises of two others.
+    fn over_two(
+        &self,
+        alloc: Global,
+        first: &Thm,
+        second: &Thm,
+        hyps: Items<Term>,
+        concl: Term,
+    ) -> Result<Thm, AllocError>
+        requires derived { Derives self.now (promise_union first.now.promises second.now.promises) hyps concl }
+        requires set { IsSet hyps }
+        ensures { IfOk result (λ th. th ≡ record { defs = self.now; promises = promise_union first.now.promises second.now.promises; hyps = hyps; concl = concl }) }
+    {
+        let promises = promise_union(alloc, first.promises(), second.promises())?;
+        self.theorem(promises, hyps, concl)
+    }
+
+    // The theorem with the hypotheses and the promises of two others.
+    fn over_both(
+        &self,
+        alloc: Global,
+        first: &Thm,
+        second: &Thm,
+        concl: Term,
+    ) -> Result<Thm, AllocError>
+        requires { Derives self.now (promise_union first.now.promises second.now.promises) (union first.now.hyps second.now.hyps) concl }
+        ensures { IfOk result (λ th. th ≡ record { defs = self.now; promises = promise_union first.now.promises second.now.promises; hyps = union first.now.hyps second.now.hyps; concl = concl }) }
+    {
+        let hyps = union(alloc, first.hyps(), second.hyps())?;
+        self.over_two(alloc, first, second, hyps, concl)
+    }
+
+    /// `t = t` (REFL).
+    pub fn refl(&self, alloc: Global, term: &Term) -> Result<Thm, RuleFault>
+        ensures { Answers result (stands self.now [] [] (refl_of (signature_of self.now) term.now)) }
+    {
+        let concl = fp_conclude::refl(alloc, self.signature(), term)?;
+        Ok(self.plain(alloc, Items::new(alloc), concl)?)
+    }
+
+    /// `s = u` from `s = t` and `t = u` (TRANS).
+    pub fn trans(&self, alloc: Global, first: &Thm, second: &Thm) -> Result<Thm, RuleFault>
+        requires first_within { Within first.now.defs self.now }
+        requires second_within { Within second.now.defs self.now }
+        ensures { Answers result (from_both self.now first.now second.now (trans_of first.now.concl second.now.concl)) }
+    {
+        let concl = fp_conclude::trans(alloc, first.concl(), second.concl())?;
+        Ok(self.over_both(alloc, first, second, concl)?)
+    }
+
+    /// `f x = g y` from `f = g` and `x = y` (MK_COMB).
+    pub fn mk_comb(&self, alloc: Global, first: &Thm, second: &Thm) -> Result<Thm, RuleFault>
+        requires first_within { Within first.now.defs self.now }
+        requires second_within { Within second.now.defs self.now }
+        ensures { Answers result (from_both self.now first.now second.now (mk_comb_of first.now.concl second.now.concl)) }
+    {
+        let concl = fp_conclude::mk_comb(alloc, first.concl(), second.concl())?;
+        Ok(self.over_both(alloc, first, second, concl)?)
+    }
+
+    /// `(%x. s) = (%x. t)` from `s = t`, where `x` is free in no hypothesis (ABS).
+    pub fn lam(&self, alloc: Global, name: &Name, ty: &Ty, given: &Thm) -> Result<Thm, RuleFault>
+        requires { Within given.now.defs self.now }
+        ensures { Answers result (from_one self.now given.now given.now.hyps (lam_of (signature_of self.now) name.now ty.now given.now.hyps given.now.concl)) }
+    {
+        let concl = fp_conclude::lam(
+            alloc,
+            self.signature(),
+            name,
+            ty,
+            given.hyps(),
+            given.concl(),
+        )?;
+        let hyps = copy_all(alloc, given.hyps())?;
+        Ok(self.over_one(alloc, given, hyps, concl)?)
+    }
+
+    /// `(%v. b) u = b` with `u` for `v` (BETA, for every redex).
+    pub fn beta(&self, alloc: Global, term: &Term) -> Result<Thm, RuleFault>
+        ensures { Answers result (stands self.now [] [] (beta_of (signature_of self.now) term.now)) }
+    {
+        let concl = fp_conclude::beta(alloc, self.signature(), term)?;
+        Ok(self.plain(alloc, Items::new(alloc), concl)?)
+    }
+
+    /// A formula from itself (ASSUME).
+    pub fn assume(&self, alloc: Global, term: &Term) -> Result<Thm, RuleFault>
+        ensures { Answers result (stands self.now [] (term.now ∷ []) (assume_of (signature_of self.now) term.now)) }
+    {
+        let concl = fp_conclude::assume(alloc, self.signature(), term)?;
+        let hyps = single(alloc, term)?;
+        Ok(self.plain(alloc, hyps, concl)?)
+    }
+
+    /// `q` from `p = q` and `p` (EQ_MP).
+    pub fn eq_mp(&self, alloc: Global, first: &Thm, second: &Thm) -> Result<Thm, RuleFault>
+        requires first_within { Within first.now.defs self.now }
+        requires second_within { Within second.now.defs self.now }
+        ensures { Answers result (from_both self.now first.now second.now (eq_mp_of first.now.concl second.now.concl)) }
+    {
+        let concl = fp_conclude::eq_mp(first.concl(), second.concl())?;
+        Ok(self.over_both(alloc, first, second, concl)?)
+    }
+
+    /// `p = q` from `p` and `q`, without `q` among the hypotheses of the first and without `p` among those of the
+    /// second (DEDUCT_ANTISYM_RULE).
+    pub fn antisym(&self, alloc: Global, first: &Thm, second: &Thm) -> Result<Thm, RuleFault>
+        requires first_within { Within first.now.defs self.now }
+        requires second_within { Within second.now.defs self.now }
+        ensures { Answers result (from_two self.now first.now second.now (union (without second.now.concl first.now.hyps) (without first.now.concl second.now.hyps)) (gives (equal truth_type first.now.concl second.now.concl))) }
+    {
+        let hyps = remaining(alloc, first, second)?;
+        let concl = equivalence(alloc, first.concl(), second.concl())?;
+        Ok(self.over_two(alloc, first, second, hyps, concl)?)
+    }
+
+    /// The instance by terms for variables of their types, of the hypotheses too (INST). All pairs are put in at once;
+    /// of several for one variable the first counts.
+    pub fn inst(
+        &self,
+        alloc: Global,
+        given: &Thm,
+        pairs: &[(Name, Ty, Term)],
+    ) -> Result<Thm, RuleFault>
+        requires { Within given.now.defs self.now }
+        ensures { Answers result (from_one self.now given.now (all_replaced pairs.now given.now.hyps) (inst_of (signature_of self.now) pairs.now given.now.concl)) }
+    {
+        let concl = fp_conclude::inst(alloc, self.signature(), pairs, given.concl())?;
+        let hyps = all_instances(alloc, given.hyps(), pairs)?;
+        Ok(self.over_one(alloc, given, hyps, concl)?)
+    }
+
+    /// The instance by types for type variables, of the hypotheses too (INST_TYPE).
+    pub fn inst_ty(
+        &self,
+        alloc: Global,
+        given: &Thm,
+        pairs: &[(Name, Ty)],
+    ) -> Result<Thm, RuleFault>
+        requires { Within given.now.defs self.now }
+        ensures { Answers result (from_one self.now given.now (all_retyped_terms pairs.now given.now.hyps) (inst_ty_of (signature_of self.now) pairs.now given.now.concl)) }
+    {
+        let concl = fp_conclude::inst_ty(alloc, self.signature(), pairs, given.concl())?;
+        let hyps = all_retyped(alloc, given.hyps(), pairs)?;
+        Ok(self.over_one(alloc, given, hyps, concl)?)
+    }
+
+    /// The axiom of that number: ETA, SELECT, INFINITY.
+    pub fn axiom(&self, alloc: Global, number: u32) -> Result<Thm, RuleFault>
+        requires first { 1 ≤ number }
+        requires last { number ≤ 3 }
+        ensures { Answers result (stands self.now [] [] (gives (axiom_numbered number))) }
+    {
+        let concl = axioms::axiom(alloc, number)?;
+        Ok(self.plain(alloc, Items::new(alloc), concl)?)
+    }
+
+    /// The definition of the connective of that number: `T`, `/\\`, `-->`, `!`, `?`, `\\/`, `F`, `~`.
+    pub fn connective(&self, alloc: Global, number: u32) -> Result<Thm, RuleFault>
+        requires first { 1 ≤ number }
+        requires last { number ≤ 8 }
+        ensures { Answers result (stands self.now [] [] (gives (connective_numbered number))) }
+    {
+        let concl = connectives::connective_definition(alloc, number)?;
+        Ok(self.plain(alloc, Items::new(alloc), concl)?)
+    }
+}
