@@ -10,6 +10,7 @@ mod logic;
 mod parts;
 mod substitution;
 
+pub use checks::typed_over;
 pub use conclude::{assume, beta, eq_mp, lam, mk_comb, refl, trans};
 pub use fault::RuleFault;
 pub use formula::{
