@@ -1,0 +1,144 @@
+ghost use Rattle.std.specs.Prelude.{◌≡◌, Some, IfOk};
+ghost use Rattle.std.specs.Option.{option_copied};
+ghost use Rattle.fp_term.specs.Terms.{free, opened};
+ghost use Rattle.fp_conclude.specs.Logic.{equal};
+ghost use Rattle.fp_conclude.specs.Outcomes.{FaultIs, Answers, refused, differ};
+ghost use Rattle.fp_kernel.specs.Definitions.{Within};
+ghost use Rattle.fp_kernel.specs.Start.{signature_of};
+ghost use Rattle.fp_kernel.specs.Theorems.{Theorem, from_one};
+ghost use Rattle.fp_conv.specs.Places.{subterm_at, put_at};
+ghost use Rattle.fp_conv.specs.Equations.{IsTyped, Equates};
+ghost use Rattle.fp_conv.specs.Rewriting.{rewrite_of};
+
+use crate::fresh::fresh;
+use crate::steps::{abstracted, chained, reflexive, with_argument, with_function};
+use fp_conclude::{Equation, sides, typed_over};
+use fp_kernel::{Defs, RuleFault, Thm};
+use fp_term::{Name, Node, Place, Term, Ty, open_with, same};
+use std::alloc::{AllocError, Global};
+
+// The subterm at the place as it stands.
+fn subterm_at<'a>(steps: &[u8], term: &'a Term) -> Option<&'a Term>
+    ensures { option_copied result ≡ subterm_at steps.now term.now }
+{
+    let Some((step, rest)) = steps.split_first() else {
+        return Some(term);
+    };
+    match term.node() {
+        Node::App { fun, arg } => match *step {
+            0 => subterm_at(rest, fun),
+            1 => subterm_at(rest, arg),
+            _ => None,
+        },
+        Node::Abs { body, .. } => match *step {
+            2 => subterm_at(rest, body),
+            _ => None,
+        },
+        _ => None,
+    }
+}
+
+// The equation itself.
+fn at_root(alloc: Global, defs: &Defs, eq: &Thm, sides: &Equation<'_>) -> Result<Thm, AllocError>
+    requires within { Within eq.now.defs defs.now }
+    requires equation { eq.now.concl ≡ equal sides.now.ty.now sides.now.left.now sides.now.right.now }
+    ensures { IfOk result (Equates defs.now eq.now.promises eq.now.hyps sides.now.left.now sides.now.right.now) }
+{
+    eq.concl();
+    let same = reflexive(alloc, defs, sides.right)?;
+    chained(alloc, defs, eq, &same)
+}
+
+// The body with the variable in place of its outermost loose number.
+fn opened(alloc: Global, body: &Term, name: &Name, ty: &Ty) -> Result<Term, AllocError>
+    ensures { IfOk result (λ t. t ≡ opened 0 (free name.now ty.now) body.now) }
+{
+    let variable = Term::free(alloc, name.copy()?, ty.copy()?)?;
+    open_with(alloc, body, &variable)
+}
+
+// The term is equal to the one with the equation's right side at the place.
+fn rewritten(
+    alloc: Global,
+    defs: &Defs,
+    steps: &[u8],
+    eq: &Thm,
+    sides: &Equation<'_>,
+    term: &Term,
+    depth: u32,
+) -> Result<Thm, AllocError>
+    requires within { Within eq.now.defs defs.now }
+    requires equation { eq.now.concl ≡ equal sides.now.ty.now sides.now.left.now sides.now.right.now }
+    requires typed { IsTyped (signature_of defs.now) term.now }
+    requires there { subterm_at steps.now term.now ≡ Some sides.now.left.now }
+    ensures { IfOk result (Equates defs.now eq.now.promises eq.now.hyps term.now (put_at steps.now sides.now.right.now term.now)) }
+{
+    let Some((step, rest)) = steps.split_first() else {
+        return at_root(alloc, defs, eq, sides);
+    };
+    match term.node() {
+        Node::App { fun, arg } => if *step == 0 {
+            let inner = rewritten(alloc, defs, rest, eq, sides, fun, depth)?;
+            with_argument(alloc, defs, fun, &inner, arg)
+        } else {
+            let inner = rewritten(alloc, defs, rest, eq, sides, arg, depth)?;
+            with_function(alloc, defs, fun, arg, &inner)
+        },
+        Node::Abs { ty, body } => {
+            let name = fresh(alloc, depth, ty, body, eq.concl(), eq.hyps())?;
+            let opened = opened(alloc, body, &name, ty)?;
+            let inner = rewritten(
+                alloc,
+                defs,
+                rest,
+                eq,
+                sides,
+                &opened,
+                depth.saturating_add(1),
+            )?;
+            abstracted(alloc, defs, &name, ty, &inner)
+        }
+        _ => unreachable!(),
+    }
+}
+
+fn differ(left: &Term, right: &Term) -> RuleFault
+    ensures { FaultIs {A = Theorem} result (refused (differ left.now right.now)) }
+{
+    match left.copy() {
+        Ok(left) => match right.copy() {
+            Ok(right) => RuleFault::Differ(left, right),
+            Err(_) => RuleFault::NoMemory,
+        },
+        Err(_) => RuleFault::NoMemory,
+    }
+}
+
+/// The term is equal to the one with the equation's right side in place of the subterm at the place, which has to be
+/// the equation's left side; with the equation's hypotheses and promises. In this order: a name of the term is
+/// unknown; the term is ill typed; the theorem isn't an equation; the term has no such place (`Shape`); the subterm
+/// there isn't the left side (`Differ`, with the subterm as it stands, its loose numbers among it). Under
+/// abstractions a subterm with a loose number is never the left side, which has none.
+pub fn rewrite_at(
+    alloc: Global,
+    defs: &Defs,
+    place: &Place,
+    eq: &Thm,
+    term: &Term,
+) -> Result<Thm, RuleFault>
+    requires { Within eq.now.defs defs.now }
+    ensures { Answers result (from_one defs.now eq.now eq.now.hyps (rewrite_of (signature_of defs.now) place.now eq.now.concl term.now)) }
+{
+    typed_over(alloc, defs.signature(), term)?;
+    let Some(sides) = sides(eq.concl()) else {
+        return Err(RuleFault::NotEquation);
+    };
+    let steps = place.steps(alloc)?;
+    let Some(part) = subterm_at(steps.as_slice(), term) else {
+        return Err(RuleFault::Shape);
+    };
+    if !same(part, sides.left) {
+        return Err(differ(part, sides.left));
+    }
+    Ok(rewritten(alloc, defs, steps.as_slice(), eq, &sides, term, 0)?)
+}

@@ -1,0 +1,112 @@
+ghost use Rattle.std.specs.Prelude.{◌≡◌, [], IfOk, Ok};
+ghost use Rattle.std.specs.Result.{ForErr};
+ghost use Rattle.fp_term.specs.Terms.{app};
+ghost use Rattle.fp_conclude.specs.Outcomes.{gives};
+ghost use Rattle.fp_conclude.specs.Rules.{trans_of, mk_comb_of, lam_of};
+ghost use Rattle.fp_conclude.specs.declared.fault.RuleFault.TheVariants.{NoMemory};
+ghost use Rattle.fp_kernel.specs.Definitions.{Within};
+ghost use Rattle.fp_kernel.specs.Start.{signature_of};
+ghost use Rattle.fp_kernel.specs.Theorems.{from_one, from_both};
+ghost use Rattle.fp_conv.specs.Equations.{IsTyped, IsGiven, Equates, right_of};
+
+use fp_kernel::{Defs, RuleFault, Thm};
+use fp_term::{Name, Term, Ty};
+use std::alloc::{AllocError, Global};
+
+// The theorem of a rule that is refused for want of memory alone.
+fn given(answer: Result<Thm, RuleFault>) -> Result<Thm, AllocError>
+    requires { ForErr answer (λ fault. fault ≡ NoMemory) }
+    ensures { IfOk result (λ th. answer ≡ Ok th) }
+{
+    match answer {
+        Ok(th) => Ok(th),
+        Err(_) => Err(AllocError),
+    }
+}
+
+/// `t = t`.
+pub(crate) fn reflexive(alloc: Global, defs: &Defs, term: &Term) -> Result<Thm, AllocError>
+    requires { IsTyped (signature_of defs.now) term.now }
+    ensures { IfOk result (Equates defs.now [] [] term.now term.now) }
+{
+    given(defs.refl(alloc, term))
+}
+
+/// What `trans` gives, where it gives anything.
+pub(crate) fn chained(
+    alloc: Global,
+    defs: &Defs,
+    first: &Thm,
+    second: &Thm,
+) -> Result<Thm, AllocError>
+    requires first_within { Within first.now.defs defs.now }
+    requires second_within { Within second.now.defs defs.now }
+    requires given { IsGiven (from_both defs.now first.now second.now (trans_of first.now.concl second.now.concl)) }
+    ensures { IfOk result (λ th. from_both defs.now first.now second.now (trans_of first.now.concl second.now.concl) ≡ gives th) }
+{
+    given(defs.trans(alloc, first, second))
+}
+
+/// What `mk_comb` gives, where it gives anything.
+pub(crate) fn combined(
+    alloc: Global,
+    defs: &Defs,
+    first: &Thm,
+    second: &Thm,
+) -> Result<Thm, AllocError>
+    requires first_within { Within first.now.defs defs.now }
+    requires second_within { Within second.now.defs defs.now }
+    requires given { IsGiven (from_both defs.now first.now second.now (mk_comb_of first.now.concl second.now.concl)) }
+    ensures { IfOk result (λ th. from_both defs.now first.now second.now (mk_comb_of first.now.concl second.now.concl) ≡ gives th) }
+{
+    given(defs.mk_comb(alloc, first, second))
+}
+
+/// What `lam` gives, where it gives anything.
+pub(crate) fn abstracted(
+    alloc: Global,
+    defs: &Defs,
+    name: &Name,
+    ty: &Ty,
+    body: &Thm,
+) -> Result<Thm, AllocError>
+    requires within { Within body.now.defs defs.now }
+    requires given { IsGiven (from_one defs.now body.now body.now.hyps (lam_of (signature_of defs.now) name.now ty.now body.now.hyps body.now.concl)) }
+    ensures { IfOk result (λ th. from_one defs.now body.now body.now.hyps (lam_of (signature_of defs.now) name.now ty.now body.now.hyps body.now.concl) ≡ gives th) }
+{
+    given(defs.lam(alloc, name, ty, body))
+}
+
+/// `f x = g x` from `f = g`.
+pub(crate) fn with_argument(
+    alloc: Global,
+    defs: &Defs,
+    fun: &Term,
+    functions: &Thm,
+    arg: &Term,
+) -> Result<Thm, AllocError>
+    requires equation { Equates defs.now functions.now.promises functions.now.hyps fun.now (right_of functions.now.concl) functions.now }
+    requires typed { IsTyped (signature_of defs.now) (app fun.now arg.now) }
+    ensures { IfOk result (Equates defs.now functions.now.promises functions.now.hyps (app fun.now arg.now) (app (right_of functions.now.concl) arg.now)) }
+{
+    let same = reflexive(alloc, defs, arg)?;
+    combined(alloc, defs, functions, &same)
+}
+
+/// `f x = f y` from `x = y`.
+pub(crate) fn with_function(
+    alloc: Global,
+    defs: &Defs,
+    fun: &Term,
+    arg: &Term,
+    arguments: &Thm,
+) -> Result<Thm, AllocError>
+    requires equation { Equates defs.now arguments.now.promises arguments.now.hyps arg.now (right_of arguments.now.concl) arguments.now }
+    requires typed { IsTyped (signature_of defs.now) (app fun.now arg.now) }
+    ensures { IfOk result (Equates defs.now arguments.now.promises arguments.now.hyps (app fun.now arg.now) (app fun.now (right_of arguments.now.concl))) }
+{
+    arguments.hyps();
+    arguments.promises();
+    let same = reflexive(alloc, defs, fun)?;
+    combined(alloc, defs, &same, arguments)
+}
