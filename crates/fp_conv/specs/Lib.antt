@@ -1,3 +1,5 @@
 pub mod Places
 pub mod Rewriting
 pub mod Equations
+pub mod Beta
+pub mod Normal

@@ -1,8 +1,9 @@
 ghost use Rattle.std.specs.Prelude.{◌≡◌, ◌||◌, false, IfOk};
+ghost use Rattle.fp_term.specs.Terms.{free, opened};
 ghost use Rattle.fp_conclude.specs.Hypotheses.{occurs, occurs_in_any};
 
 use fp_conclude::{occurs, occurs_in_any};
-use fp_term::{Name, Term, Ty};
+use fp_term::{Name, Term, Ty, open_with};
 use std::alloc::{AllocError, Global};
 
 // `_` and the digits of the number, the last one first.
@@ -42,4 +43,12 @@ pub(crate) fn fresh(
         }
     }
     Err(AllocError)
+}
+
+/// The body with the variable in place of its outermost loose number.
+pub(crate) fn opened(alloc: Global, body: &Term, name: &Name, ty: &Ty) -> Result<Term, AllocError>
+    ensures { IfOk result (λ t. t ≡ opened 0 (free name.now ty.now) body.now) }
+{
+    let variable = Term::free(alloc, name.copy()?, ty.copy()?)?;
+    open_with(alloc, body, &variable)
 }

@@ -4,8 +4,10 @@
 //! to it (`refl` of the part beside it, `mk_comb`), and one for each abstraction (`lam`).
 #![tactic(auto)]
 
+mod beta;
 mod fresh;
 mod rewrite;
 mod steps;
 
+pub use beta::{beta_norm, norm};
 pub use rewrite::rewrite_at;

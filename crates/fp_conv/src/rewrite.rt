@@ -1,6 +1,5 @@
 ghost use Rattle.std.specs.Prelude.{◌≡◌, Some, IfOk};
 ghost use Rattle.std.specs.Option.{option_copied};
-ghost use Rattle.fp_term.specs.Terms.{free, opened};
 ghost use Rattle.fp_conclude.specs.Logic.{equal};
 ghost use Rattle.fp_conclude.specs.Outcomes.{FaultIs, Answers, refused, differ};
 ghost use Rattle.fp_kernel.specs.Definitions.{Within};
@@ -10,11 +9,11 @@ ghost use Rattle.fp_conv.specs.Places.{subterm_at, put_at};
 ghost use Rattle.fp_conv.specs.Equations.{IsTyped, Equates};
 ghost use Rattle.fp_conv.specs.Rewriting.{rewrite_of};
 
-use crate::fresh::fresh;
+use crate::fresh::{fresh, opened};
 use crate::steps::{abstracted, chained, reflexive, with_argument, with_function};
 use fp_conclude::{Equation, sides, typed_over};
 use fp_kernel::{Defs, RuleFault, Thm};
-use fp_term::{Name, Node, Place, Term, Ty, open_with, same};
+use fp_term::{Node, Place, Term, same};
 use std::alloc::{AllocError, Global};
 
 // The subterm at the place as it stands.
@@ -47,14 +46,6 @@ fn at_root(alloc: Global, defs: &Defs, eq: &Thm, sides: &Equation<'_>) -> Result
     eq.concl();
     let same = reflexive(alloc, defs, sides.right)?;
     chained(alloc, defs, eq, &same)
-}
-
-// The body with the variable in place of its outermost loose number.
-fn opened(alloc: Global, body: &Term, name: &Name, ty: &Ty) -> Result<Term, AllocError>
-    ensures { IfOk result (λ t. t ≡ opened 0 (free name.now ty.now) body.now) }
-{
-    let variable = Term::free(alloc, name.copy()?, ty.copy()?)?;
-    open_with(alloc, body, &variable)
 }
 
 // The term is equal to the one with the equation's right side at the place.

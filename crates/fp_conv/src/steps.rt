@@ -1,12 +1,14 @@
-ghost use Rattle.std.specs.Prelude.{◌≡◌, [], IfOk, Ok};
+ghost use Rattle.std.specs.Prelude.{◌≡◌, [], true, IfOk, Ok};
 ghost use Rattle.std.specs.Result.{ForErr};
 ghost use Rattle.fp_term.specs.Terms.{app};
 ghost use Rattle.fp_conclude.specs.Outcomes.{gives};
-ghost use Rattle.fp_conclude.specs.Rules.{trans_of, mk_comb_of, lam_of};
+ghost use Rattle.fp_conclude.specs.Rules.{trans_of, mk_comb_of, lam_of, eq_mp_of};
 ghost use Rattle.fp_conclude.specs.declared.fault.RuleFault.TheVariants.{NoMemory};
 ghost use Rattle.fp_kernel.specs.Definitions.{Within};
 ghost use Rattle.fp_kernel.specs.Start.{signature_of};
 ghost use Rattle.fp_kernel.specs.Theorems.{from_one, from_both};
+ghost use Rattle.fp_conv.specs.Beta.{is_redex};
+ghost use Rattle.fp_conv.specs.Normal.{Reduction};
 ghost use Rattle.fp_conv.specs.Equations.{IsTyped, IsGiven, Equates, right_of};
 
 use fp_kernel::{Defs, RuleFault, Thm};
@@ -75,6 +77,30 @@ pub(crate) fn abstracted(
     ensures { IfOk result (λ th. from_one defs.now body.now body.now.hyps (lam_of (signature_of defs.now) name.now ty.now body.now.hyps body.now.concl) ≡ gives th) }
 {
     given(defs.lam(alloc, name, ty, body))
+}
+
+/// A redex and its contract.
+pub(crate) fn contracted(alloc: Global, defs: &Defs, term: &Term) -> Result<Thm, AllocError>
+    requires typed { IsTyped (signature_of defs.now) term.now }
+    requires redex { is_redex term.now ≡ true }
+    ensures { IfOk result (Reduction defs.now term.now) }
+{
+    given(defs.beta(alloc, term))
+}
+
+/// What `eq_mp` gives, where it gives anything.
+pub(crate) fn transferred(
+    alloc: Global,
+    defs: &Defs,
+    first: &Thm,
+    second: &Thm,
+) -> Result<Thm, AllocError>
+    requires first_within { Within first.now.defs defs.now }
+    requires second_within { Within second.now.defs defs.now }
+    requires given { IsGiven (from_both defs.now first.now second.now (eq_mp_of first.now.concl second.now.concl)) }
+    ensures { IfOk result (λ th. from_both defs.now first.now second.now (eq_mp_of first.now.concl second.now.concl) ≡ gives th) }
+{
+    given(defs.eq_mp(alloc, first, second))
 }
 
 /// `f x = g x` from `f = g`.

@@ -1,0 +1,188 @@
+-- The equations that a beta-normal form is made of.
+use Rattle.std.proofs.Common.{◌≡◌, ◌∙◌, ◌<◌, ℕ, true, false, ◌||◌, List, [], refl, sym, ap, arith}
+use Rattle.std.specs.Prelude.{Result, Ok, Err, IfOk}
+use Rattle.std.proofs.lemmas.Option.{same_Some}
+use Rattle.fp_term.specs.Types.{Typ}
+use Rattle.fp_term.specs.Terms.{Tm, bound, free, constant, app, abs, size_of, opened, closed}
+use Rattle.fp_term.specs.Signatures.{IsWellTyped}
+use Rattle.fp_term.specs.declared.signature.Signature.{Signature}
+use Rattle.fp_term.proofs.Typed.{app_parts}
+use Rattle.fp_conclude.specs.declared.fault.RuleFault.{RuleFault}
+use Rattle.fp_conclude.specs.Logic.{truth_type, equal}
+use Rattle.fp_conclude.specs.Hypotheses.{IsSet, union, occurs, occurs_in_any}
+use Rattle.fp_conclude.specs.Outcomes.{gives, Answers}
+use Rattle.fp_conclude.specs.Rules.{trans_of, mk_comb_of, lam_of, beta_of, eq_mp_of}
+use Rattle.fp_conclude.proofs.Gives.{beta_gives, eq_mp_gives}
+use Rattle.fp_conclude.proofs.Outcomes.{same_given}
+use Rattle.fp_conclude.proofs.Sets.{union_nothing}
+use Rattle.fp_kernel.specs.Definitions.{Def, Within}
+use Rattle.fp_kernel.specs.Start.{signature_of}
+use Rattle.fp_kernel.specs.Derivability.{IsFormula}
+use Rattle.fp_kernel.specs.Theorems.{Theorem, IsTheorem, ArePromises, promise_union, stands, from_one, from_both}
+use Rattle.fp_kernel.proofs.Later.{later_all}
+use Rattle.fp_kernel.proofs.Formulas.{formula_of, sides}
+use Rattle.fp_kernel.proofs.Promised.{union_nothing as promises_nothing}
+use Rattle.fp_conv.specs.Equations.{IsTyped, IsGiven, Equates, right_of}
+use Rattle.fp_conv.specs.Beta.{Reduces, none, first, here, is_redex, is_normal}
+use Rattle.fp_conv.specs.Normal.{Reduction, NormalForm, Normalizes}
+use Rattle.fp_conv.proofs.Opening.{neither, closed_opened, size-opened}
+use Rattle.fp_conv.proofs.Given.{combine_equates, abstract_given, abstract_equates}
+use Rattle.fp_conv.proofs.Rewriting.{chain, body_type}
+use Rattle.fp_conv.proofs.Reducing.{reduces_on, reduces_both, reduces_under}
+
+pub function_typed : (g : Signature) (t f x : Tm) → t ≡ app f x → IsTyped g t → IsTyped g f
+function_typed g t f x is h =
+    let k = rw is at h.well in
+    record { type = _; well = record { typed = (app_parts [] f x h.type k.typed).1; over = k.over.0 } }
+
+pub argument_smaller : (t f x : Tm) → t ≡ app f x → size_of x < size_of t
+argument_smaller t f x is = rw is (omega arith)
+
+pub body_smaller : (t o : Tm) (name : List ℕ) (u : Typ) (x : Tm) → t ≡ abs u x → o ≡ opened 0 (free name u) x → size_of o < size_of t
+body_smaller t o name u x is opened_is =
+    let same = size-opened name u 0 x in
+    rw (is, opened_is, same) (omega arith)
+
+-- a redex
+redex_shape : (t : Tm) → is_redex t ≡ true → (s : Typ) × (body : Tm) × (arg : Tm) × (t ≡ app (abs s body) arg)
+redex_shape (app (abs s body) arg) e = (s, body, arg, refl)
+redex_shape (app (bound n) arg) e = cc
+redex_shape (app (free a s) arg) e = cc
+redex_shape (app (constant a s) arg) e = cc
+redex_shape (app (app f x) arg) e = cc
+redex_shape (bound n) e = cc
+redex_shape (free a s) e = cc
+redex_shape (constant a s) e = cc
+redex_shape (abs s x) e = cc
+
+record Contraction (defs : List Def) (t : Tm) : Type 0 where
+  reduct : Tm
+  type : Typ
+  well : IsWellTyped (signature_of defs) t type
+  reduces : Reduces t reduct
+  stands : stands defs [] [] (beta_of (signature_of defs) t) ≡ gives (record { defs = defs; promises = []; hyps = []; concl = equal type t reduct })
+
+contraction : (defs : List Def) (t : Tm) → IsTyped (signature_of defs) t → is_redex t ≡ true → Contraction defs t
+contraction defs t h e =
+    let p = redex_shape t e in
+    let k = rw p.3 at h.well in
+    rw p.3 (record {
+      reduct = opened 0 p.2 p.1;
+      type = h.type;
+      well = k;
+      reduces = first (here p.0 p.1 p.2) none;
+      stands = ap (stands defs [] []) (beta_gives (signature_of defs) p.0 h.type p.1 p.2 k);
+    })
+
+pub contraction_given : (defs : List Def) (t : Tm) → IsTyped (signature_of defs) t → is_redex t ≡ true → IsGiven (stands defs [] [] (beta_of (signature_of defs) t))
+contraction_given defs t h e = record { value = _; given = (contraction defs t h e).stands }
+
+pub contraction_reduces : {E : Type 0} (defs : List Def) (t : Tm) (r : Result Theorem RuleFault) (q : Result Theorem E) → IsTyped (signature_of defs) t → is_redex t ≡ true →
+    Answers r (stands defs [] [] (beta_of (signature_of defs) t)) → IfOk q (λ th. r ≡ Ok th) → IfOk q (Reduction defs t)
+contraction_reduces defs t r (Ok th) h e a i =
+    let c = contraction defs t h e in
+    record { reduct = c.reduct; reduces = c.reduces; equates = record { type = c.type; typed = c.well; is = same_given th _ (sym (rw i at a) ∙ c.stands) } }
+contraction_reduces defs t r (Err f) h e a i = tt
+
+-- a term that reduces to itself
+pub unreduced_ok : {E : Type 0} (defs : List Def) (t : Tm) (q : Result Theorem E) → IfOk q (Equates defs [] [] t t) → IfOk q (Reduction defs t)
+unreduced_ok defs t (Ok th) e = record { reduct = t; reduces = none; equates = e }
+unreduced_ok defs t (Err f) e = tt
+
+module _ {defs : List Def} {t : Tm} {a : Theorem} where
+  -- the right side of the equation, which is a formula
+  pub right_typed : (p r : Tm) → Reduction defs t a → IsFormula (signature_of a.defs) a.concl → p ≡ a.concl → r ≡ right_of p → IsTyped (signature_of defs) r
+  right_typed p r d f p_is r_is =
+      let e = d.equates in
+      let k = rw e.is at f in
+      let right = (sides (signature_of defs) e.type t d.reduct k).right in
+      rw (r_is, p_is, e.is) (record { type = e.type; well = right })
+
+  pub normal_form : (p r : Tm) → Reduction defs t a → p ≡ a.concl → r ≡ right_of p → is_normal r ≡ true → NormalForm defs t a
+  normal_form p r d p_is r_is n = record { reduct = d.reduct; reduces = d.reduces; normal = rw (r_is, p_is, d.equates.is) at n; equates = d.equates }
+
+  -- one reduction after the other
+  after : {b : Theorem} → Reduction defs t a → Reduction defs (right_of a.concl) b → IsFormula (signature_of a.defs) a.concl →
+      (e : Reduction defs t a) × (f : Reduction defs e.reduct b) × (from_both defs a b (trans_of a.concl b.concl) ≡ gives (record { defs = defs; promises = []; hyps = []; concl = equal e.equates.type t f.reduct }))
+  after {b} d e f =
+      let one = d.equates in
+      let next : Reduction defs d.reduct b = rw one.is at e in
+      let two = next.equates in
+      let k = rw one.is at f in
+      let right = (sides (signature_of defs) one.type t d.reduct k).right in
+      let same = same_Some two.type one.type (sym two.typed.typed ∙ right.typed) in
+      let left_is : a.concl ≡ equal one.type t d.reduct = ap (λ (w : Theorem). w.concl) one.is in
+      let right_is : b.concl ≡ equal one.type d.reduct next.reduct = ap (λ (w : Theorem). w.concl) two.is ∙ ap (λ (u : Typ). equal u d.reduct next.reduct) same in
+      let c = chain defs a b one.type t d.reduct next.reduct left_is right_is in
+      let promises : promise_union a.promises b.promises ≡ [] = rw (one.is, two.is) refl in
+      let hyps : union a.hyps b.hyps ≡ [] = rw (one.is, two.is) refl in
+      (d, next, rw (promises, hyps) (rw (promises, hyps) at c))
+
+  pub after_given : {b : Theorem} → Reduction defs t a → Reduction defs (right_of a.concl) b → IsFormula (signature_of a.defs) a.concl → IsGiven (from_both defs a b (trans_of a.concl b.concl))
+  after_given d e f = let c = after d e f in record { value = _; given = c.2 }
+
+  pub after_reduces : {E : Type 0} {b : Theorem} (q : Result Theorem E) → Reduction defs t a → Reduction defs (right_of a.concl) b → IsFormula (signature_of a.defs) a.concl →
+      IfOk q (λ th. from_both defs a b (trans_of a.concl b.concl) ≡ gives th) → IfOk q (Reduction defs t)
+  after_reduces (Ok th) d e f i =
+      let c = after d e f in
+      record {
+        reduct = c.1.reduct;
+        reduces = reduces_on c.0.reduces c.1.reduces;
+        equates = record { type = c.0.equates.type; typed = c.0.equates.typed; is = same_given th _ (sym i ∙ c.2) };
+      }
+  after_reduces (Err g) d e f i = tt
+
+-- the parts of an application
+pub both_reduce : {E : Type 0} {defs : List Def} {f x : Tm} {a b : Theorem} (q : Result Theorem E) → IsTyped (signature_of defs) (app f x) → Reduction defs f a → Reduction defs x b →
+    IfOk q (λ th. from_both defs a b (mk_comb_of a.concl b.concl) ≡ gives th) → IfOk q (Reduction defs (app f x))
+both_reduce {f = f} {x = x} (Ok th) h d e i = record {
+  reduct = app d.reduct e.reduct;
+  reduces = reduces_both d.reduces e.reduces;
+  equates = combine_equates th d.equates e.equates h i;
+}
+both_reduce (Err g) h d e i = tt
+
+-- a body that is opened by a variable that isn't free in it
+module _ (defs : List Def) (name : List ℕ) (u : Typ) (x t o : Tm) (term_is : t ≡ abs u x) (opened_is : o ≡ opened 0 (free name u) x) (h : IsTyped (signature_of defs) t) where
+  pub body_given : (b : Theorem) → Reduction defs o b → IsGiven (from_one defs b b.hyps (lam_of (signature_of defs) name u b.hyps b.concl))
+  body_given b d = abstract_given name u (body_type (signature_of defs) t u x term_is h) refl d.equates
+
+  whole : (th : Theorem) → occurs name u x ≡ false → Reduction defs (abs u (closed 0 name u o)) th → Reduction defs t th
+  whole th apart d =
+      let back = closed_opened name u 0 x apart in
+      rw term_is (rw (opened_is, back) at d)
+
+  pub body_reduces : {E : Type 0} (b : Theorem) (q : Result Theorem E) → (occurs name u x || (occurs name u x || occurs_in_any name u [])) ≡ false → Reduction defs o b →
+      IfOk q (λ th. from_one defs b b.hyps (lam_of (signature_of defs) name u b.hyps b.concl) ≡ gives th) → IfOk q (Reduction defs t)
+  body_reduces {E} b (Ok th) apart d i =
+      whole th (neither (occurs name u x) _ apart).0 (record {
+        reduct = abs u (closed 0 name u d.reduct);
+        reduces = reduces_under name u d.equates.type d.equates.typed.typed d.reduces;
+        equates = abstract_equates {E = E} name u (Ok th) (body_type (signature_of defs) t u x term_is h) refl d.equates i;
+      })
+  body_reduces b (Err f) apart d i = tt
+
+-- a theorem over newer definitions
+pub conclusion_typed : (defs : List Def) (a : Theorem) (p : Tm) → Within a.defs defs → IsTheorem a → p ≡ a.concl → IsTyped (signature_of defs) p
+conclusion_typed defs a p w d is = rw is (record { type = truth_type; well = formula_of (later_all w (λ x i. i) d) })
+
+-- what a theorem's conclusion is equal to
+module _ {defs : List Def} {p : Tm} {b : Theorem} (a : Theorem) (n : NormalForm defs p b) (p_is : p ≡ a.concl) where
+  moved : from_both defs b a (eq_mp_of b.concl a.concl) ≡ gives (record { defs = defs; promises = promise_union [] a.promises; hyps = union [] a.hyps; concl = n.reduct })
+  moved =
+      let e = n.equates in
+      rw (e.is, ← p_is) (ap (from_both defs (record { defs = defs; promises = []; hyps = []; concl = equal e.type p n.reduct }) a) (eq_mp_gives e.type p n.reduct))
+
+  pub moved_given : IsGiven (from_both defs b a (eq_mp_of b.concl a.concl))
+  moved_given = record { value = _; given = moved }
+
+  pub moved_normalizes : (th : Theorem) → ArePromises a.promises → IsSet a.hyps → from_both defs b a (eq_mp_of b.concl a.concl) ≡ gives th → Normalizes defs a th
+  moved_normalizes th j k i =
+      let same_promises = promises_nothing a.promises j in
+      let same_hyps = union_nothing a.hyps k in
+      record {
+        reduct = n.reduct;
+        reduces = rw p_is at n.reduces;
+        normal = n.normal;
+        is = rw (same_promises, same_hyps) at (same_given th _ (sym i ∙ moved));
+      }

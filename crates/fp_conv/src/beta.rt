@@ -1,0 +1,164 @@
+ghost use Rattle.std.specs.Prelude.{◌≡◌, IfOk, IfErr};
+ghost use Rattle.fp_term.specs.Terms.{app};
+ghost use Rattle.fp_kernel.specs.Definitions.{Within};
+ghost use Rattle.fp_kernel.specs.Start.{signature_of};
+ghost use Rattle.fp_conclude.specs.declared.fault.RuleFault.TheVariants.{NoMemory};
+ghost use Rattle.fp_conv.specs.Beta.{is_abstraction, is_redex, is_normal};
+ghost use Rattle.fp_conv.specs.Equations.{IsTyped, right_of};
+ghost use Rattle.fp_conv.specs.Normal.{Reduction, NormalForm, Normalizes};
+
+use crate::fresh::{fresh, opened};
+use crate::steps::{abstracted, chained, combined, contracted, reflexive, transferred};
+use fp_kernel::{Defs, RuleFault, Thm};
+use fp_term::{Node, Term};
+use std::alloc::{AllocError, Global};
+
+fn is_abstraction(term: &Term) -> bool
+    ensures { result ≡ is_abstraction term.now }
+{
+    match term.node() {
+        Node::Abs { .. } => true,
+        _ => false,
+    }
+}
+
+fn is_normal(term: &Term) -> bool
+    ensures { result ≡ is_normal term.now }
+{
+    match term.node() {
+        Node::App { fun, arg } => !is_abstraction(fun) && is_normal(fun) && is_normal(arg),
+        Node::Abs { body, .. } => is_normal(body),
+        _ => true,
+    }
+}
+
+// The right side of an equation.
+fn right_side(equation: &Term) -> &Term
+    ensures { result.now ≡ right_of equation.now }
+{
+    match equation.node() {
+        Node::App { arg, .. } => arg,
+        _ => equation,
+    }
+}
+
+// Is it an abstraction applied to an argument?
+fn is_redex(term: &Term) -> bool
+    ensures { result ≡ is_redex term.now }
+{
+    match term.node() {
+        Node::App { fun, .. } => is_abstraction(fun),
+        _ => false,
+    }
+}
+
+// The first reduction and then that of its right side.
+fn joined(
+    alloc: Global,
+    defs: &Defs,
+    term: &Term,
+    first: &Thm,
+    second: &Thm,
+) -> Result<Thm, AllocError>
+    requires first { Reduction defs.now term.now first.now }
+    requires second { Reduction defs.now (right_of first.now.concl) second.now }
+    ensures { IfOk result (Reduction defs.now term.now) }
+{
+    first.concl();
+    chained(alloc, defs, first, second)
+}
+
+// The reduction, and where its right side is a redex, that of this one too.
+fn contracted_after(alloc: Global, defs: &Defs, term: &Term, made: Thm) -> Result<Thm, AllocError>
+    requires { Reduction defs.now term.now made }
+    ensures { IfOk result (Reduction defs.now term.now) }
+{
+    let right = right_side(made.concl());
+    if !is_redex(right) {
+        return Ok(made);
+    }
+    let next = contracted(alloc, defs, right)?;
+    joined(alloc, defs, term, &made, &next)
+}
+
+// The reduction of an application by those of its parts.
+fn applied(
+    alloc: Global,
+    defs: &Defs,
+    fun: &Term,
+    arg: &Term,
+    functions: &Thm,
+    arguments: &Thm,
+) -> Result<Thm, AllocError>
+    requires typed { IsTyped (signature_of defs.now) (app fun.now arg.now) }
+    requires functions { Reduction defs.now fun.now functions.now }
+    requires arguments { Reduction defs.now arg.now arguments.now }
+    ensures { IfOk result (Reduction defs.now (app fun.now arg.now)) }
+{
+    combined(alloc, defs, functions, arguments)
+}
+
+// All outermost redexes are contracted, and those that then stand where an application stood.
+fn reduced(alloc: Global, defs: &Defs, term: &Term, depth: u32) -> Result<Thm, AllocError>
+    requires { IsTyped (signature_of defs.now) term.now }
+    ensures { IfOk result (Reduction defs.now term.now) }
+{
+    if is_normal(term) {
+        return reflexive(alloc, defs, term);
+    }
+    if is_redex(term) {
+        return contracted(alloc, defs, term);
+    }
+    match term.node() {
+        Node::App { fun, arg } => {
+            let functions = reduced(alloc, defs, fun, depth)?;
+            let arguments = reduced(alloc, defs, arg, depth)?;
+            let made = applied(alloc, defs, fun, arg, &functions, &arguments)?;
+            contracted_after(alloc, defs, term, made)
+        }
+        Node::Abs { ty, body } => {
+            let name = fresh(alloc, depth, ty, body, body, &[])?;
+            let opened = opened(alloc, body, &name, ty)?;
+            let inner = reduced(alloc, defs, &opened, depth.saturating_add(1))?;
+            abstracted(alloc, defs, &name, ty, &inner)
+        }
+        _ => unreachable!(),
+    }
+}
+
+// The reduction, and then one more pass over its right side.
+fn reduced_after(alloc: Global, defs: &Defs, term: &Term, made: &Thm) -> Result<Thm, AllocError>
+    requires { Reduction defs.now term.now made.now }
+    ensures { IfOk result (Reduction defs.now term.now) }
+{
+    let next = reduced(alloc, defs, right_side(made.concl()), 0)?;
+    joined(alloc, defs, term, made, &next)
+}
+
+/// The term is equal to its beta-normal form, without hypotheses and promises.
+pub fn beta_norm(alloc: Global, defs: &Defs, term: &Term) -> Result<Thm, AllocError>
+    requires { IsTyped (signature_of defs.now) term.now }
+    ensures { IfOk result (NormalForm defs.now term.now) }
+{
+    let mut made = reduced(alloc, defs, term, 0)?;
+    for _ in 0..u64::MAX {
+        if is_normal(right_side(made.concl())) {
+            return Ok(made);
+        }
+        made = reduced_after(alloc, defs, term, &made)?;
+    }
+    Err(AllocError)
+}
+
+/// What is concluded, in its beta-normal form, from the same hypotheses and promises. It is refused for want of
+/// memory alone.
+pub fn norm(alloc: Global, defs: &Defs, given: &Thm) -> Result<Thm, RuleFault>
+    requires { Within given.now.defs defs.now }
+    ensures ok { IfOk result (Normalizes defs.now given.now) }
+    ensures err { IfErr result (λ fault. fault ≡ NoMemory) }
+{
+    let equal = beta_norm(alloc, defs, given.concl())?;
+    given.hyps();
+    given.promises();
+    Ok(transferred(alloc, defs, &equal, given)?)
+}
