@@ -339,15 +339,22 @@ fn first_part(alloc: Global, defs: &Defs, both: &Term) -> Result<Thm, RuleFault>
     part(alloc, defs, &assumed, FIRST)
 }
 
+// The first formula of a conclusion `p /\ q`, from that.
+fn again_first(alloc: Global, defs: &Defs, both: &Thm) -> Result<Thm, RuleFault>
+    ensures { IfOk result (λ th. Within th.defs defs.now) }
+{
+    first_part(alloc, defs, concl(both))
+}
+
 // `(p /\ q) = p` from `q`, where `p` may be its hypothesis.
 fn absorbed(alloc: Global, defs: &Defs, hypothesis: &Term, given: &Thm) -> Result<Thm, RuleFault>
     requires { Within given.now.defs defs.now }
     ensures { IfOk result (λ th. Within th.defs defs.now) }
 {
-    let assumed = assume(alloc, defs, hypothesis)?;
-    let both = conj(alloc, defs, &assumed, given)?;
-    let first = first_part(alloc, defs, concl(&both))?;
-    antisym(alloc, defs, &both, &first)
+    let start = assume(alloc, defs, hypothesis)?;
+    let both = conj(alloc, defs, &start, given)?;
+    let back = again_first(alloc, defs, &both)?;
+    antisym(alloc, defs, &both, &back)
 }
 
 // `((p /\ q) = p) = (p --> q)`, of a conclusion `q`.
@@ -382,13 +389,21 @@ fn swapped(alloc: Global, defs: &Defs, given: &Thm) -> Result<Thm, RuleFault>
     conj(alloc, defs, &second, &first)
 }
 
+// `p --> q` from `q`, for a conclusion `p`.
+fn disch_concl(alloc: Global, defs: &Defs, first: &Thm, given: &Thm) -> Result<Thm, RuleFault>
+    requires { Within given.now.defs defs.now }
+    ensures { IfOk result (λ th. Within th.defs defs.now) }
+{
+    disch(alloc, defs, concl(first), given)
+}
+
 // `p /\ q --> q /\ p` from `p /\ q`.
 fn commuted(alloc: Global, defs: &Defs, given: &Thm) -> Result<Thm, RuleFault>
     requires { Within given.now.defs defs.now }
     ensures { IfOk result (λ th. Within th.defs defs.now) }
 {
     let turned_round = swapped(alloc, defs, given)?;
-    disch(alloc, defs, concl(given), &turned_round)
+    disch_concl(alloc, defs, given, &turned_round)
 }
 
 fn conjunction_commuted(alloc: Global, defs: &Defs) -> Result<Thm, RuleFault> {
