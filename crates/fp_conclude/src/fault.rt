@@ -63,7 +63,8 @@ pub(crate) fn unknown_name(name: &Name) -> RuleFault
     }
 }
 
-pub(crate) fn differ(left: &Term, right: &Term) -> RuleFault
+/// That two terms that have to be equal are not.
+pub fn differ(left: &Term, right: &Term) -> RuleFault
     ensures { FaultIs {A = Tm} result (refused (differ left.now right.now)) }
 {
     match left.copy() {

@@ -12,7 +12,7 @@ mod substitution;
 
 pub use checks::typed_over;
 pub use conclude::{assume, beta, eq_mp, lam, mk_comb, refl, trans};
-pub use fault::RuleFault;
+pub use fault::{RuleFault, differ};
 pub use formula::{
     abstraction, alpha, beta_variable, binary_truth, conjunction, connective, false_constant,
     for_all, for_some, implication, individuals, negation, negation_constant, quantifier,

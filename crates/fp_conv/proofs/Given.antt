@@ -20,7 +20,7 @@ use Rattle.fp_conclude.proofs.Sets.{union_nothing}
 use Rattle.fp_kernel.specs.Definitions.{Def, Within, whole}
 use Rattle.fp_kernel.specs.Start.{signature_of}
 use Rattle.fp_kernel.specs.Theorems.{Theorem, ArePromises, promise_union, stands, from_one, from_both}
-use Rattle.fp_kernel.proofs.Promised.{union_nothing as promises_nothing}
+use Rattle.fp_kernel.proofs.Promised.{promises_alone as promises_nothing}
 use Rattle.fp_conv.specs.Equations.{IsTyped, IsGiven, Equates}
 
 -- what gives something is refused for want of memory alone

@@ -21,7 +21,7 @@ use Rattle.fp_kernel.specs.Derivability.{IsFormula}
 use Rattle.fp_kernel.specs.Theorems.{Theorem, IsTheorem, ArePromises, promise_union, stands, from_one, from_both}
 use Rattle.fp_kernel.proofs.Later.{later_all}
 use Rattle.fp_kernel.proofs.Formulas.{formula_of, sides}
-use Rattle.fp_kernel.proofs.Promised.{union_nothing as promises_nothing}
+use Rattle.fp_kernel.proofs.Promised.{promises_alone as promises_nothing}
 use Rattle.fp_conv.specs.Equations.{IsTyped, IsGiven, Equates, right_of}
 use Rattle.fp_conv.specs.Beta.{Reduces, none, first, here, is_redex, is_normal}
 use Rattle.fp_conv.specs.Normal.{Reduction, NormalForm, Normalizes}

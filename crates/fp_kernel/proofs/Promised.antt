@@ -1,5 +1,5 @@
 -- Promises without repeats stay so with those of another theorem.
-use Rattle.std.proofs.Common.{◌≡◌, ℕ, Bool, true, false, cond, ◌&&◌, ◌||◌, ◌==◌, List, [], ◌∷◌, ◌++◌, refl, sym, ap, ◌∙◌}
+use Rattle.std.proofs.Common.{◌≡◌, ◌∙◌, ℕ, Bool, true, false, cond, ◌&&◌, ◌||◌, ◌==◌, List, [], ◌∷◌, ◌++◌, refl, sym, ap}
 use Rattle.std.proofs.lemmas.List.{append-nil, append_assoc}
 use Rattle.std.proofs.lemmas.Bool.Decides.{Decides-eqb}
 use Rattle.fp_term.specs.Terms.{Tm, term_eq}
@@ -49,29 +49,26 @@ pub promises_set : (promises more : List (ℕ × Tm)) → ArePromises promises �
 promises_set promises [] h = h
 promises_set promises (q ∷ more) h = promises_set (cond (promised q promises) promises (promises ++ q ∷ [])) more (set_unless (promised q promises) promises q refl h)
 
--- none of the one list is in the other
-Apart : List (ℕ × Tm) → List (ℕ × Tm) → Type 0
+-- none of the one list's promises is in the other
+abbrev pub Apart : List (ℕ × Tm) → List (ℕ × Tm) → Type 0
 Apart promises [] = Unit {0}
 Apart promises (q ∷ more) = (promised q promises ≡ false) × Apart promises more
 
 apart_more : (promises more : List (ℕ × Tm)) (q : ℕ × Tm) → Apart promises more → promised q more ≡ false → Apart (promises ++ q ∷ []) more
-unfolding Apart
 apart_more promises [] q h e = tt
-apart_more promises (p ∷ more) q h e =
-    let a = neither (alike q p) (promised q more) e in
-    (promised_append p promises q h.0 (apart_by p q (alike p q) refl a.0), apart_more promises more q h.1 a.1)
+apart_more promises (r ∷ more) q h e =
+    let a = neither (alike q r) (promised q more) e in
+    (promised_append r promises q h.0 (apart_by r q (alike r q) refl a.0), apart_more promises more q h.1 a.1)
 
--- lists that are apart are put one after the other
-union_apart : (promises more : List (ℕ × Tm)) → Apart promises more → ArePromises more → promise_union promises more ≡ promises ++ more
-unfolding Apart
-union_apart promises [] h k = sym (append-nil promises)
-union_apart promises (q ∷ more) h k =
-    rw h.0 (union_apart (promises ++ q ∷ []) more (apart_more promises more q h.1 k.0) k.1 ∙ append_assoc promises (q ∷ []) more)
+-- promises that are apart are put one after the other
+pub promises_apart : (promises more : List (ℕ × Tm)) → Apart promises more → ArePromises more → promise_union promises more ≡ promises ++ more
+promises_apart promises [] h k = sym (append-nil promises)
+promises_apart promises (q ∷ more) h k =
+    rw h.0 (promises_apart (promises ++ q ∷ []) more (apart_more promises more q h.1 k.0) k.1 ∙ append_assoc promises (q ∷ []) more)
 
 from_nothing : (more : List (ℕ × Tm)) → Apart [] more
-unfolding Apart
 from_nothing [] = tt
 from_nothing (q ∷ more) = (refl, from_nothing more)
 
-pub union_nothing : (promises : List (ℕ × Tm)) → ArePromises promises → promise_union [] promises ≡ promises
-union_nothing promises h = union_apart [] promises (from_nothing promises) h
+pub promises_alone : (promises : List (ℕ × Tm)) → ArePromises promises → promise_union [] promises ≡ promises
+promises_alone promises h = promises_apart [] promises (from_nothing promises) h
