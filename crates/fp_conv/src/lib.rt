@@ -1,7 +1,12 @@
 //! Conversions: theorems that are equations of a term with what it is rewritten to, made by the kernel's rules alone.
 //!
-//! Rewriting at a place uses two rules for the equation itself (`refl`, `trans`), two for each application on the way
-//! to it (`refl` of the part beside it, `mk_comb`), and one for each abstraction (`lam`).
+//! Rules that are used: for a rewriting at a place, two for the equation (`refl`, `trans`), two for each application
+//! on the way (`refl` of the part beside it, `mk_comb`) and one for each abstraction (`lam`); for a pass of beta
+//! reduction, one for each part without a redex (`refl`), for each redex (`beta`), application (`mk_comb`) and
+//! abstraction (`lam`) above one, and one (`trans`) for each redex that comes to stand in an application's place; one
+//! more (`trans`) for each further pass, and one (`eq_mp`) to reduce a theorem.
+//!
+//! The calls nest as deep as the term has levels, at most 4,000, and passes are made by a loop that counts them.
 #![tactic(auto)]
 
 mod beta;
