@@ -1,5 +1,5 @@
 -- The equations that a beta-normal form is made of.
-use Rattle.std.proofs.Common.{◌≡◌, ◌∙◌, ◌<◌, ℕ, true, false, ◌||◌, List, [], refl, sym, ap, arith}
+use Rattle.std.proofs.Common.{◌≡◌, ◌∙◌, ◌<◌, ℕ, Bool, true, false, ◌||◌, List, [], refl, sym, ap, arith}
 use Rattle.std.specs.Prelude.{Result, Ok, Err, IfOk}
 use Rattle.std.proofs.lemmas.Option.{same_Some}
 use Rattle.fp_term.specs.Types.{Typ}
@@ -9,7 +9,7 @@ use Rattle.fp_term.specs.declared.signature.Signature.{Signature}
 use Rattle.fp_term.proofs.Typed.{app_parts}
 use Rattle.fp_conclude.specs.declared.fault.RuleFault.{RuleFault}
 use Rattle.fp_conclude.specs.Logic.{truth_type, equal}
-use Rattle.fp_conclude.specs.Hypotheses.{IsSet, union, occurs, occurs_in_any}
+use Rattle.fp_conclude.specs.Hypotheses.{IsSet, union, occurs}
 use Rattle.fp_conclude.specs.Outcomes.{gives, Answers}
 use Rattle.fp_conclude.specs.Rules.{trans_of, mk_comb_of, lam_of, beta_of, eq_mp_of}
 use Rattle.fp_conclude.proofs.Gives.{beta_gives, eq_mp_gives}
@@ -27,13 +27,16 @@ use Rattle.fp_conv.specs.Beta.{Reduces, none, first, here, is_redex, is_normal}
 use Rattle.fp_conv.specs.Normal.{Reduction, NormalForm, Normalizes}
 use Rattle.fp_conv.proofs.Opening.{neither, closed_opened, size-opened}
 use Rattle.fp_conv.proofs.Given.{combine_equates, abstract_given, abstract_equates}
-use Rattle.fp_conv.proofs.Rewriting.{chain, body_type}
+use Rattle.fp_conv.proofs.Rewriting.{chain}
 use Rattle.fp_conv.proofs.Reducing.{reduces_on, reduces_both, reduces_under}
 
 pub function_typed : (g : Signature) (t f x : Tm) → t ≡ app f x → IsTyped g t → IsTyped g f
 function_typed g t f x is h =
     let k = rw is at h.well in
     record { type = _; well = record { typed = (app_parts [] f x h.type k.typed).1; over = k.over.0 } }
+
+pub function_smaller : (t f x : Tm) → t ≡ app f x → size_of f < size_of t
+function_smaller t f x is = rw is (omega arith)
 
 pub argument_smaller : (t f x : Tm) → t ≡ app f x → size_of x < size_of t
 argument_smaller t f x is = rw is (omega arith)
@@ -132,6 +135,15 @@ module _ {defs : List Def} {t : Tm} {a : Theorem} where
       }
   after_reduces (Err g) d e f i = tt
 
+pub whole_typed : (g : Signature) (t u : Tm) → t ≡ u → IsTyped g t → IsTyped g u
+whole_typed g t u is h = rw is at h
+
+pub whole_reduces : {E : Type 0} (defs : List Def) (q : Result Theorem E) (t u : Tm) → t ≡ u → IfOk q (Reduction defs u) → IfOk q (Reduction defs t)
+whole_reduces defs q t u is e = rw is e
+
+pub reduction_of : (defs : List Def) (th : Theorem) (t u : Tm) → t ≡ u → Reduction defs u th → Reduction defs t th
+reduction_of defs th t u is d = rw is d
+
 -- the parts of an application
 pub both_reduce : {E : Type 0} {defs : List Def} {f x : Tm} {a b : Theorem} (q : Result Theorem E) → IsTyped (signature_of defs) (app f x) → Reduction defs f a → Reduction defs x b →
     IfOk q (λ th. from_both defs a b (mk_comb_of a.concl b.concl) ≡ gives th) → IfOk q (Reduction defs (app f x))
@@ -143,24 +155,28 @@ both_reduce {f = f} {x = x} (Ok th) h d e i = record {
 both_reduce (Err g) h d e i = tt
 
 -- a body that is opened by a variable that isn't free in it
-module _ (defs : List Def) (name : List ℕ) (u : Typ) (x t o : Tm) (term_is : t ≡ abs u x) (opened_is : o ≡ opened 0 (free name u) x) (h : IsTyped (signature_of defs) t) where
+module _ (defs : List Def) (name : List ℕ) (u : Typ) (x o : Tm) (opened_is : o ≡ opened 0 (free name u) x) (apart : occurs name u x ≡ false) (h : IsTyped (signature_of defs) (abs u x)) where
   pub body_given : (b : Theorem) → Reduction defs o b → IsGiven (from_one defs b b.hyps (lam_of (signature_of defs) name u b.hyps b.concl))
-  body_given b d = abstract_given name u (body_type (signature_of defs) t u x term_is h) refl d.equates
+  body_given b d = abstract_given name u h.well.over.0 refl d.equates
 
-  whole : (th : Theorem) → occurs name u x ≡ false → Reduction defs (abs u (closed 0 name u o)) th → Reduction defs t th
-  whole th apart d =
+  whole : (th : Theorem) → Reduction defs (abs u (closed 0 name u o)) th → Reduction defs (abs u x) th
+  whole th d =
       let back = closed_opened name u 0 x apart in
-      rw term_is (rw (opened_is, back) at d)
+      rw (opened_is, back) at d
 
-  pub body_reduces : {E : Type 0} (b : Theorem) (q : Result Theorem E) → (occurs name u x || (occurs name u x || occurs_in_any name u [])) ≡ false → Reduction defs o b →
-      IfOk q (λ th. from_one defs b b.hyps (lam_of (signature_of defs) name u b.hyps b.concl) ≡ gives th) → IfOk q (Reduction defs t)
-  body_reduces {E} b (Ok th) apart d i =
-      whole th (neither (occurs name u x) _ apart).0 (record {
+  pub body_reduces : {E : Type 0} (b : Theorem) (q : Result Theorem E) → Reduction defs o b →
+      IfOk q (λ th. from_one defs b b.hyps (lam_of (signature_of defs) name u b.hyps b.concl) ≡ gives th) → IfOk q (Reduction defs (abs u x))
+  body_reduces {E} b (Ok th) d i =
+      whole th (record {
         reduct = abs u (closed 0 name u d.reduct);
         reduces = reduces_under name u d.equates.type d.equates.typed.typed d.reduces;
-        equates = abstract_equates {E = E} name u (Ok th) (body_type (signature_of defs) t u x term_is h) refl d.equates i;
+        equates = abstract_equates {E = E} name u (Ok th) h.well.over.0 refl d.equates i;
       })
-  body_reduces b (Err f) apart d i = tt
+  body_reduces b (Err f) d i = tt
+
+-- a variable that is apart from all is apart from the first
+pub apart_first : (a b : Bool) → (a || b) ≡ false → a ≡ false
+apart_first a b e = (neither a b e).0
 
 -- a theorem over newer definitions
 pub conclusion_typed : (defs : List Def) (a : Theorem) (p : Tm) → Within a.defs defs → IsTheorem a → p ≡ a.concl → IsTyped (signature_of defs) p

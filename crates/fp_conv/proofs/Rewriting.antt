@@ -1,5 +1,5 @@
 -- The equations that rewriting at a place is made of.
-use Rattle.std.proofs.Common.{◌≡◌, ◌∙◌, ℕ, false, ◌||◌, List, [], ◌∷◌, refl, sym, ap}
+use Rattle.std.proofs.Common.{◌≡◌, ◌∙◌, ℕ, ◌==◌, Bool, true, false, ◌||◌, List, [], ◌∷◌, refl, sym, ap}
 use Rattle.std.specs.Prelude.{Some, Result, Ok, Err, IfOk}
 use Rattle.std.proofs.lemmas.Option.{same_Some}
 use Rattle.std.proofs.lemmas.Bool.Decides.{Decides-eqb}
@@ -25,7 +25,7 @@ use Rattle.fp_kernel.specs.Start.{signature_of}
 use Rattle.fp_kernel.specs.Theorems.{Theorem, IsTheorem, promise_union, from_one, from_both}
 use Rattle.fp_kernel.proofs.Later.{later_all}
 use Rattle.fp_kernel.proofs.Formulas.{Sides, formula_of, sides}
-use Rattle.fp_conv.specs.Equations.{IsTyped, IsGiven, Equates}
+use Rattle.fp_conv.specs.Equations.{IsTyped, IsGiven, Equates, right_of}
 use Rattle.fp_conv.specs.Places.{subterm_at, put_at}
 use Rattle.fp_conv.proofs.Opening.{neither, closed_opened}
 use Rattle.fp_conv.proofs.Places.{application_at, abstraction_at, subterm_opened, put_closed}
@@ -113,33 +113,64 @@ module _ (defs : List Def) (a : Theorem) (s : Typ) (l r : Tm) (w : Within a.defs
         let p = abstraction_at step place u x l (rw (steps_are, term_is) at h) in
         rw opened_is (subterm_opened (free name u) l s (sides_of defs a s l r w d is).left.typed place 0 x p.1)
 
-    module _ (p : Tm) (h : List Tm) (p_is : p ≡ a.concl) (h_is : h ≡ a.hyps) (apart : (occurs name u x || (occurs name u p || occurs_in_any name u h)) ≡ false) where
-      apart_body : occurs name u x ≡ false
-      apart_body = (neither (occurs name u x) _ apart).0
+-- an abstraction whose body was opened by a variable that is apart from it and from the equation
+module _ (defs : List Def) (a : Theorem) (s : Typ) (l r : Tm) (is : a.concl ≡ equal s l r) (name : List ℕ) (u : Typ) (x : Tm) (place : List ℕ) (o : Tm) (opened_is : o ≡ opened 0 (free name u) x)
+    (apart : (occurs name u x || (occurs name u a.concl || occurs_in_any name u a.hyps)) ≡ false) (typed : IsTyped (signature_of defs) (abs u x)) where
+  apart_body : occurs name u x ≡ false
+  apart_body = (neither (occurs name u x) _ apart).0
 
-      apart_right : occurs name u r ≡ false
-      apart_right =
-          let both = (neither (occurs name u x) _ apart).1 in
-          let in_equation = (neither (occurs name u p) _ both).0 in
-          let e : occurs name u (equal s l r) ≡ false = rw (p_is, is) at in_equation in
-          (neither (occurs name u (app (constant equality (equality_type s)) l)) (occurs name u r) e).1
+  apart_both : (occurs name u a.concl ≡ false) × (occurs_in_any name u a.hyps ≡ false)
+  apart_both = neither (occurs name u a.concl) _ (neither (occurs name u x) _ apart).1
 
-      apart_hyps : occurs_in_any name u a.hyps ≡ false
-      apart_hyps =
-          let both = (neither (occurs name u x) _ apart).1 in
-          rw h_is at (neither (occurs name u p) _ both).1
+  apart_right : occurs name u r ≡ false
+  apart_right =
+      let e : occurs name u (equal s l r) ≡ false = rw is at apart_both.0 in
+      (neither (occurs name u (app (constant equality (equality_type s)) l)) (occurs name u r) e).1
 
-      pub under_given : (b : Theorem) → IsTyped (signature_of defs) t → Equates defs a.promises a.hyps o (put_at place r o) b → IsGiven (from_one defs b b.hyps (lam_of (signature_of defs) name u b.hyps b.concl))
-      under_given b typed e = abstract_given name u (body_type (signature_of defs) t u x term_is typed) apart_hyps e
+  pub under_given : (b : Theorem) → Equates defs a.promises a.hyps o (put_at place r o) b → IsGiven (from_one defs b b.hyps (lam_of (signature_of defs) name u b.hyps b.concl))
+  under_given b e = abstract_given name u typed.well.over.0 apart_both.1 e
 
-      whole : (th : Theorem) → subterm_at steps t ≡ Some l → Equates defs a.promises a.hyps (abs u (closed 0 name u o)) (abs u (closed 0 name u (put_at place r o))) th → Equates defs a.promises a.hyps t (put_at steps r t) th
-      whole th there e =
-          let at_two = (abstraction_at step place u x l (rw (steps_are, term_is) at there)).0 in
-          let left = closed_opened name u 0 x apart_body in
-          let right = put_closed name u r apart_right place 0 x apart_body in
-          rw (steps_are, term_is) (rw (opened_is, left, right) at e)
+  whole : (th : Theorem) → Equates defs a.promises a.hyps (abs u (closed 0 name u o)) (abs u (closed 0 name u (put_at place r o))) th → Equates defs a.promises a.hyps (abs u x) (abs u (put_at place r x)) th
+  whole th e =
+      let left = closed_opened name u 0 x apart_body in
+      let right = put_closed name u r apart_right place 0 x apart_body in
+      rw (opened_is, left, right) at e
 
-      pub under_equates : {E : Type 0} (b : Theorem) (q : Result Theorem E) → IsTyped (signature_of defs) t → subterm_at steps t ≡ Some l → Equates defs a.promises a.hyps o (put_at place r o) b →
-          IfOk q (λ th. from_one defs b b.hyps (lam_of (signature_of defs) name u b.hyps b.concl) ≡ gives th) → IfOk q (Equates defs a.promises a.hyps t (put_at steps r t))
-      under_equates {E} b (Ok th) typed there e i = whole th there (abstract_equates {E = E} name u (Ok th) (body_type (signature_of defs) t u x term_is typed) apart_hyps e i)
-      under_equates b (Err f) typed there e i = tt
+  pub under_equates : {E : Type 0} (b : Theorem) (q : Result Theorem E) → Equates defs a.promises a.hyps o (put_at place r o) b →
+      IfOk q (λ th. from_one defs b b.hyps (lam_of (signature_of defs) name u b.hyps b.concl) ≡ gives th) → IfOk q (Equates defs a.promises a.hyps (abs u x) (abs u (put_at place r x)))
+  under_equates {E} b (Ok th) e i = whole th (abstract_equates {E = E} name u (Ok th) typed.well.over.0 apart_both.1 e i)
+  under_equates b (Err f) e i = tt
+
+-- the equation of an abstraction, where the place leads into its body
+pub rewritten_in_body : {E : Type 0} (defs : List Def) (p : List (ℕ × Tm)) (h : List Tm) (q : Result Theorem E) (steps place : List ℕ) (step : ℕ) (t l r : Tm) (u : Typ) (x : Tm) → steps ≡ step ∷ place → t ≡ abs u x → subterm_at steps t ≡ Some l →
+    IfOk q (Equates defs p h (abs u x) (abs u (put_at place r x))) → IfOk q (Equates defs p h t (put_at steps r t))
+rewritten_in_body defs p h q steps place step t l r u x steps_are is there e = rw (steps_are, is) e
+
+-- the equation of a theorem in terms of its own parts
+pub own_parts : {defs : List Def} {p : List (ℕ × Tm)} {h : List Tm} {t u : Tm} {th : Theorem} → Equates defs p h t u th → Equates defs th.promises th.hyps t (right_of th.concl) th
+own_parts e = rw e.is (rw e.is at e)
+
+unequal_by : (step : ℕ) (b : Bool) → (step == 0) ≡ b → (step ≡ 0 → ⊥) → (step == 0) ≡ false
+unequal_by step true e h = absurd (h ((Decides-eqb step 0).0 e))
+unequal_by step false e h = e
+
+-- the equation of an application, where the place leads into its function, and into its argument
+pub rewritten_in_function : {E : Type 0} {defs : List Def} {p : List (ℕ × Tm)} {h : List Tm} {inner : Theorem} (q : Result Theorem E) (steps place : List ℕ) (step : ℕ) (t r f x : Tm) → steps ≡ step ∷ place → step ≡ 0 → t ≡ app f x →
+    Equates defs p h f (put_at place r f) inner → IfOk q (Equates defs inner.promises inner.hyps (app f x) (app (right_of inner.concl) x)) → IfOk q (Equates defs p h t (put_at steps r t))
+rewritten_in_function q steps place step t r f x steps_are zeroth is e made = rw (steps_are, zeroth, is) (rw e.is at made)
+
+pub rewritten_in_argument : {E : Type 0} {defs : List Def} {p : List (ℕ × Tm)} {h : List Tm} {inner : Theorem} (q : Result Theorem E) (steps place : List ℕ) (step : ℕ) (t r f x : Tm) → steps ≡ step ∷ place → (step ≡ 0 → ⊥) → t ≡ app f x →
+    Equates defs p h x (put_at place r x) inner → IfOk q (Equates defs inner.promises inner.hyps (app f x) (app f (right_of inner.concl))) → IfOk q (Equates defs p h t (put_at steps r t))
+rewritten_in_argument q steps place step t r f x steps_are other is e made =
+    let no = unequal_by step (step == 0) refl other in
+    rw (steps_are, is, no) (rw e.is at made)
+
+-- at the place itself
+pub rewritten_here : {E : Type 0} (defs : List Def) (p : List (ℕ × Tm)) (h : List Tm) (q : Result Theorem E) (steps : List ℕ) (t l r : Tm) → steps ≡ [] → subterm_at steps t ≡ Some l → IfOk q (Equates defs p h l r) → IfOk q (Equates defs p h t (put_at steps r t))
+rewritten_here defs p h q steps t l r steps_are there e =
+    let same = same_Some t l (rw steps_are at there) in
+    rw (steps_are, same) e
+
+-- the rest of a place in the function of an application
+pub function_there : (steps place : List ℕ) (step : ℕ) (t f x l : Tm) → steps ≡ step ∷ place → t ≡ app f x → step ≡ 0 → subterm_at steps t ≡ Some l → subterm_at place f ≡ Some l
+function_there steps place step t f x l e is zeroth h = rw (e, is, zeroth) at h

@@ -1,5 +1,6 @@
-ghost use Rattle.std.specs.Prelude.{◌≡◌, IfOk, IfErr};
-ghost use Rattle.fp_term.specs.Terms.{app};
+ghost use Rattle.std.specs.Prelude.{◌≡◌, false, IfOk, IfErr};
+ghost use Rattle.fp_term.specs.Terms.{free, app, abs, opened};
+ghost use Rattle.fp_conclude.specs.Hypotheses.{occurs};
 ghost use Rattle.fp_kernel.specs.Definitions.{Within};
 ghost use Rattle.fp_kernel.specs.Start.{signature_of};
 ghost use Rattle.fp_conclude.specs.declared.fault.RuleFault.TheVariants.{NoMemory};
@@ -7,10 +8,10 @@ ghost use Rattle.fp_conv.specs.Beta.{is_abstraction, is_redex, is_normal};
 ghost use Rattle.fp_conv.specs.Equations.{IsTyped, right_of};
 ghost use Rattle.fp_conv.specs.Normal.{Reduction, NormalForm, Normalizes};
 
-use crate::fresh::{fresh, opened};
+use crate::fresh::opening;
 use crate::steps::{abstracted, chained, combined, contracted, reflexive, transferred};
 use fp_kernel::{Defs, RuleFault, Thm};
-use fp_term::{Node, Term};
+use fp_term::{Name, Node, Term, Ty};
 use std::alloc::{AllocError, Global};
 
 fn is_abstraction(term: &Term) -> bool
@@ -87,15 +88,33 @@ fn applied(
     defs: &Defs,
     fun: &Term,
     arg: &Term,
-    functions: &Thm,
-    arguments: &Thm,
+    functions: Thm,
+    arguments: Thm,
 ) -> Result<Thm, AllocError>
     requires typed { IsTyped (signature_of defs.now) (app fun.now arg.now) }
-    requires functions { Reduction defs.now fun.now functions.now }
-    requires arguments { Reduction defs.now arg.now arguments.now }
+    requires functions { Reduction defs.now fun.now functions }
+    requires arguments { Reduction defs.now arg.now arguments }
     ensures { IfOk result (Reduction defs.now (app fun.now arg.now)) }
 {
-    combined(alloc, defs, functions, arguments)
+    combined(alloc, defs, &functions, &arguments)
+}
+
+// The reduction of an abstraction by that of its opened body.
+fn closed_again(
+    alloc: Global,
+    defs: &Defs,
+    ty: &Ty,
+    body: &Term,
+    opening: (Name, Term),
+    inner: Thm,
+) -> Result<Thm, AllocError>
+    requires typed { IsTyped (signature_of defs.now) (abs ty.now body.now) }
+    requires apart { occurs opening.0 ty.now body.now ≡ false }
+    requires opened { opening.1 ≡ opened 0 (free opening.0 ty.now) body.now }
+    requires inner { Reduction defs.now opening.1 inner }
+    ensures { IfOk result (Reduction defs.now (abs ty.now body.now)) }
+{
+    abstracted(alloc, defs, &opening.0, ty, &inner)
 }
 
 // All outermost redexes are contracted, and those that then stand where an application stood.
@@ -113,14 +132,13 @@ fn reduced(alloc: Global, defs: &Defs, term: &Term, depth: u32) -> Result<Thm, A
         Node::App { fun, arg } => {
             let functions = reduced(alloc, defs, fun, depth)?;
             let arguments = reduced(alloc, defs, arg, depth)?;
-            let made = applied(alloc, defs, fun, arg, &functions, &arguments)?;
+            let made = applied(alloc, defs, fun, arg, functions, arguments)?;
             contracted_after(alloc, defs, term, made)
         }
         Node::Abs { ty, body } => {
-            let name = fresh(alloc, depth, ty, body, body, &[])?;
-            let opened = opened(alloc, body, &name, ty)?;
-            let inner = reduced(alloc, defs, &opened, depth.saturating_add(1))?;
-            abstracted(alloc, defs, &name, ty, &inner)
+            let opening = opening(alloc, depth, ty, body, body, &[])?;
+            let inner = reduced(alloc, defs, &opening.1, depth.saturating_add(1))?;
+            closed_again(alloc, defs, ty, body, opening, inner)
         }
         _ => unreachable!(),
     }

@@ -25,8 +25,8 @@ fn is_taken(name: &Name, ty: &Ty, body: &Term, other: &Term, hyps: &[Term]) -> b
     occurs(name, ty, body) || occurs(name, ty, other) || occurs_in_any(name, ty, hyps)
 }
 
-/// A name whose variable of the type is free in none of the terms.
-pub(crate) fn fresh(
+// A name whose variable of the type is free in none of the terms.
+fn fresh(
     alloc: Global,
     from: u32,
     ty: &Ty,
@@ -45,10 +45,27 @@ pub(crate) fn fresh(
     Err(AllocError)
 }
 
-/// The body with the variable in place of its outermost loose number.
+// The body with the variable in place of its outermost loose number.
 pub(crate) fn opened(alloc: Global, body: &Term, name: &Name, ty: &Ty) -> Result<Term, AllocError>
     ensures { IfOk result (λ t. t ≡ opened 0 (free name.now ty.now) body.now) }
 {
     let variable = Term::free(alloc, name.copy()?, ty.copy()?)?;
     open_with(alloc, body, &variable)
+}
+
+/// A name whose variable of the type is free in none of the terms, and the body opened by its variable.
+pub(crate) fn opening(
+    alloc: Global,
+    from: u32,
+    ty: &Ty,
+    body: &Term,
+    other: &Term,
+    hyps: &[Term],
+) -> Result<(Name, Term), AllocError>
+    ensures apart { IfOk result (λ p. (occurs p.0 ty.now body.now || (occurs p.0 ty.now other.now || occurs_in_any p.0 ty.now hyps.now)) ≡ false) }
+    ensures opened { IfOk result (λ p. p.1 ≡ opened 0 (free p.0 ty.now) body.now) }
+{
+    let name = fresh(alloc, from, ty, body, other, hyps)?;
+    let opened = opened(alloc, body, &name, ty)?;
+    Ok((name, opened))
 }

@@ -1,6 +1,8 @@
-ghost use Rattle.std.specs.Prelude.{◌≡◌, Some, IfOk};
+ghost use Rattle.std.specs.Prelude.{◌≡◌, ◌||◌, false, Some, IfOk};
 ghost use Rattle.std.specs.Option.{option_copied};
+ghost use Rattle.fp_term.specs.Terms.{free, abs, opened};
 ghost use Rattle.fp_conclude.specs.Logic.{equal};
+ghost use Rattle.fp_conclude.specs.Hypotheses.{occurs, occurs_in_any};
 ghost use Rattle.fp_conclude.specs.Outcomes.{FaultIs, Answers, refused, differ};
 ghost use Rattle.fp_kernel.specs.Definitions.{Within};
 ghost use Rattle.fp_kernel.specs.Start.{signature_of};
@@ -9,11 +11,11 @@ ghost use Rattle.fp_conv.specs.Places.{subterm_at, put_at};
 ghost use Rattle.fp_conv.specs.Equations.{IsTyped, Equates};
 ghost use Rattle.fp_conv.specs.Rewriting.{rewrite_of};
 
-use crate::fresh::{fresh, opened};
+use crate::fresh::opening;
 use crate::steps::{abstracted, chained, reflexive, with_argument, with_function};
 use fp_conclude::{Equation, sides, typed_over};
 use fp_kernel::{Defs, RuleFault, Thm};
-use fp_term::{Node, Place, Term, same};
+use fp_term::{Name, Node, Place, Term, Ty, same};
 use std::alloc::{AllocError, Global};
 
 // The subterm at the place as it stands.
@@ -48,6 +50,28 @@ fn at_root(alloc: Global, defs: &Defs, eq: &Thm, sides: &Equation<'_>) -> Result
     chained(alloc, defs, eq, &same)
 }
 
+// What was rewritten in the opened body of an abstraction is rewritten in the abstraction.
+fn closed_again(
+    alloc: Global,
+    defs: &Defs,
+    rest: &[u8],
+    eq: &Thm,
+    sides: &Equation<'_>,
+    ty: &Ty,
+    body: &Term,
+    opening: (Name, Term),
+    inner: Thm,
+) -> Result<Thm, AllocError>
+    requires typed { IsTyped (signature_of defs.now) (abs ty.now body.now) }
+    requires equation { eq.now.concl ≡ equal sides.now.ty.now sides.now.left.now sides.now.right.now }
+    requires apart { (occurs opening.0 ty.now body.now || (occurs opening.0 ty.now eq.now.concl || occurs_in_any opening.0 ty.now eq.now.hyps)) ≡ false }
+    requires opened { opening.1 ≡ opened 0 (free opening.0 ty.now) body.now }
+    requires inner { Equates defs.now eq.now.promises eq.now.hyps opening.1 (put_at rest.now sides.now.right.now opening.1) inner }
+    ensures { IfOk result (Equates defs.now eq.now.promises eq.now.hyps (abs ty.now body.now) (abs ty.now (put_at rest.now sides.now.right.now body.now))) }
+{
+    abstracted(alloc, defs, &opening.0, ty, &inner)
+}
+
 // The term is equal to the one with the equation's right side at the place.
 fn rewritten(
     alloc: Global,
@@ -76,18 +100,17 @@ fn rewritten(
             with_function(alloc, defs, fun, arg, &inner)
         },
         Node::Abs { ty, body } => {
-            let name = fresh(alloc, depth, ty, body, eq.concl(), eq.hyps())?;
-            let opened = opened(alloc, body, &name, ty)?;
+            let opening = opening(alloc, depth, ty, body, eq.concl(), eq.hyps())?;
             let inner = rewritten(
                 alloc,
                 defs,
                 rest,
                 eq,
                 sides,
-                &opened,
+                &opening.1,
                 depth.saturating_add(1),
             )?;
-            abstracted(alloc, defs, &name, ty, &inner)
+            closed_again(alloc, defs, rest, eq, sides, ty, body, opening, inner)
         }
         _ => unreachable!(),
     }
