@@ -1,0 +1,15 @@
+use Rattle.std.proofs.Common.{refl}
+use Rattle.fp_conclude.specs.Logic.{truth_type}
+use Rattle.fp_kernel.specs.Definitions.{whole}
+use Rattle.fp_logic.specs.Schemas.{p_variable}
+use Rattle.fp_logic.proofs.Concrete.{at_start}
+use Rattle.fp_logic.proofs.holding.held_from.Goals as goal
+
+pub assumed-requires : goal.assumed-requires
+assumed-requires c = rw c.requires.term (at_start c.args.defs.now p_variable truth_type refl refl)
+
+pub equate-requires : goal.equate-requires
+equate-requires c = rw (c.in_ok-itself.ensures, c.requires.truth) (whole, whole)
+
+pub returns : goal.returns
+returns c = rw (c.in_ok-itself.ensures, c.requires.truth, c.requires.term) at c.equate.ensures

@@ -1,0 +1,5 @@
+pub mod Forms
+pub mod Derived
+pub mod Shapes
+pub mod Steps
+pub mod Schemas

@@ -1,0 +1,190 @@
+//! `p` and `q` from `p /\ q`.
+ghost use Rattle.std.specs.Prelude.{◌≡◌, IfOk};
+ghost use Rattle.fp_term.specs.Terms.{app};
+ghost use Rattle.fp_conclude.specs.Logic.{truth_type, equal, conjunction, true_constant};
+ghost use Rattle.fp_kernel.specs.Derivability.{IsFormula};
+ghost use Rattle.fp_kernel.specs.Start.{signature_of};
+ghost use Rattle.fp_logic.specs.Shapes.{left, right, IsEquationFrom};
+ghost use Rattle.fp_logic.specs.Steps.{plain, by_one, by_both, choice_schema, IsConjunction};
+ghost use Rattle.fp_logic.specs.Schemas.{p_variable, q_variable, applying, chooser, chosen, chosen_from, choice};
+
+use crate::equations::unfold;
+use crate::holding::{convert, establish, p_variable, q_variable};
+use crate::instances::instance;
+use crate::shapes::left;
+use crate::steps::{chain, combine, own, reduced};
+use crate::unfolding::{conjunction_meaning, own_q};
+use fp_conclude::{abstraction, apply, apply_both, binary_truth, true_constant, truth_type};
+use fp_kernel::{Defs, Thm};
+use fp_term::Term;
+use std::alloc::{AllocError, Global};
+
+// `%x y. x` or `%x y. y`
+fn chooser(alloc: Global, first: bool) -> Result<Term, AllocError>
+    ensures { IfOk result (λ t. t ≡ chooser first) }
+{
+    let number = if first { 1 } else { 0 };
+    let ty = truth_type(alloc)?;
+    let body = Term::bound(alloc, number)?;
+    let inner = abstraction(alloc, &ty, &body)?;
+    abstraction(alloc, &ty, &inner)
+}
+
+/// `%f. f l r`
+pub fn applying(alloc: Global, left: &Term, right: &Term) -> Result<Term, AllocError>
+    ensures { IfOk result (λ t. t ≡ applying left.now right.now) }
+{
+    let function = Term::bound(alloc, 0)?;
+    let body = apply_both(alloc, &function, left, right)?;
+    let ty = binary_truth(alloc)?;
+    abstraction(alloc, &ty, &body)
+}
+
+// `%f. f p q`
+fn applying_variables(alloc: Global) -> Result<Term, AllocError>
+    ensures { IfOk result (λ t. t ≡ applying p_variable q_variable) }
+{
+    let left = p_variable(alloc)?;
+    let right = q_variable(alloc)?;
+    applying(alloc, &left, &right)
+}
+
+// `(%f. f p q) c = c p q`, for a chooser `c`.
+fn passed(alloc: Global, defs: &Defs, first: bool, by: &Term) -> Result<Thm, AllocError>
+    requires { by.now ≡ chooser first }
+    ensures { IfOk result (λ th. th ≡ plain defs.now (equal truth_type (choice first p_variable q_variable) (app (app (chooser first) p_variable) q_variable))) }
+{
+    let function = applying_variables(alloc)?;
+    let redex = apply(alloc, &function, by)?;
+    reduced(alloc, defs, &redex)
+}
+
+// `c p = (%y. x)`, for a chooser `c`, with `p` or `y` for `x`.
+fn chosen_once(alloc: Global, defs: &Defs, first: bool, by: &Term) -> Result<Thm, AllocError>
+    requires { by.now ≡ chooser first }
+    ensures { IfOk result (λ th. th ≡ plain defs.now (chosen_from first)) }
+{
+    let term = p_variable(alloc)?;
+    let redex = apply(alloc, by, &term)?;
+    reduced(alloc, defs, &redex)
+}
+
+// `c p q = x`, for the chooser `c`, with `p` or `q` for `x`.
+fn chosen_twice(alloc: Global, defs: &Defs, first: bool, by: &Term) -> Result<Thm, AllocError>
+    requires { by.now ≡ chooser first }
+    ensures { IfOk result (λ th. th ≡ plain defs.now (equal truth_type (app (app (chooser first) p_variable) q_variable) (chosen first p_variable q_variable))) }
+{
+    let once = chosen_once(alloc, defs, first, by)?;
+    let second = own_q(alloc, defs)?;
+    unfold(alloc, defs, &once, &second)
+}
+
+// `(%f. f p q) c = x`, for the chooser `c`, with `p` or `q` for `x`.
+fn choice_schema(alloc: Global, defs: &Defs, first: bool) -> Result<Thm, AllocError>
+    ensures { IfOk result (λ th. th ≡ choice_schema defs.now first) }
+{
+    let by = chooser(alloc, first)?;
+    let passed = passed(alloc, defs, first, &by)?;
+    let twice = chosen_twice(alloc, defs, first, &by)?;
+    chain(alloc, defs, &passed, &twice)
+}
+
+// `(%f. f l r) c = (%f. f T T) c` from `l /\ r`, for the chooser `c`.
+fn choices(
+    alloc: Global,
+    defs: &Defs,
+    first: bool,
+    a: &Thm,
+    left: &Term,
+    right: &Term,
+) -> Result<Thm, AllocError>
+    requires { IsConjunction defs.now a.now left.now right.now }
+    ensures { IfOk result (λ th. th ≡ by_one defs.now a.now (equal truth_type (choice first left.now right.now) (choice first true_constant true_constant))) }
+{
+    let meaning = conjunction_meaning(alloc, defs, left, right)?;
+    let said = convert(alloc, defs, &meaning, a)?;
+    let by = chooser(alloc, first)?;
+    let own = own(alloc, defs, &by)?;
+    combine(alloc, defs, &said, &own)
+}
+
+// `(%f. f l r) c = x`, for the chooser `c`, by what is derived for variables.
+fn choice_of(
+    alloc: Global,
+    defs: &Defs,
+    schema: &Thm,
+    first: bool,
+    left: &Term,
+    right: &Term,
+) -> Result<Thm, AllocError>
+    requires schema { schema.now ≡ choice_schema defs.now first }
+    requires left { IsFormula (signature_of defs.now) left.now }
+    requires right { IsFormula (signature_of defs.now) right.now }
+    ensures { IfOk result (λ th. th ≡ plain defs.now (equal truth_type (choice first left.now right.now) (chosen first left.now right.now))) }
+{
+    let _ = first;
+    instance(alloc, defs, schema, left, right)
+}
+
+// `(%f. f T T) c = T`, by what is derived for variables.
+fn truth_choice(alloc: Global, defs: &Defs, schema: &Thm, first: bool) -> Result<Thm, AllocError>
+    requires { schema.now ≡ choice_schema defs.now first }
+    ensures { IfOk result (λ th. th ≡ plain defs.now (equal truth_type (choice first true_constant true_constant) true_constant)) }
+{
+    let truth = true_constant(alloc)?;
+    choice_of(alloc, defs, schema, first, &truth, &truth)
+}
+
+// `(%f. f l r) c = T` from `l /\ r`.
+fn against_truth(
+    alloc: Global,
+    defs: &Defs,
+    schema: &Thm,
+    first: bool,
+    a: &Thm,
+    left: &Term,
+    right: &Term,
+) -> Result<Thm, AllocError>
+    requires schema { schema.now ≡ choice_schema defs.now first }
+    requires conjunction { IsConjunction defs.now a.now left.now right.now }
+    ensures { IfOk result (λ th. th ≡ by_one defs.now a.now (equal truth_type (choice first left.now right.now) true_constant)) }
+{
+    let choices = choices(alloc, defs, first, a, left, right)?;
+    let truth = truth_choice(alloc, defs, schema, first)?;
+    chain(alloc, defs, &choices, &truth)
+}
+
+/// `u` from `s = T` and `s = u`, over one list.
+pub fn established(
+    alloc: Global,
+    defs: &Defs,
+    against: &Thm,
+    equation: &Thm,
+) -> Result<Thm, AllocError>
+    requires first { against.now.defs ≡ defs.now }
+    requires second { equation.now.defs ≡ defs.now }
+    requires shape { against.now.concl ≡ equal truth_type (left against.now.concl) true_constant }
+    requires equation { IsEquationFrom truth_type (left against.now.concl) equation.now.concl }
+    ensures { IfOk result (λ th. th ≡ by_both defs.now against.now equation.now (right equation.now.concl)) }
+{
+    let own = own(alloc, defs, left(against.concl()))?;
+    establish(alloc, defs, against, equation, &own)
+}
+
+/// `l` from `l /\ r`, where the first is asked for, else `r`.
+pub fn conjunct(
+    alloc: Global,
+    defs: &Defs,
+    first: bool,
+    a: &Thm,
+    left: &Term,
+    right: &Term,
+) -> Result<Thm, AllocError>
+    requires { IsConjunction defs.now a.now left.now right.now }
+    ensures { IfOk result (λ th. th ≡ by_one defs.now a.now (chosen first left.now right.now)) }
+{
+    let schema = choice_schema(alloc, defs, first)?;
+    let against = against_truth(alloc, defs, &schema, first, a, left, right)?;
+    let choice = choice_of(alloc, defs, &schema, first, left, right)?;
+    established(alloc, defs, &against, &choice)
+}

@@ -1,0 +1,126 @@
+//! Forms of conjunctions. Primitive steps: `conj` 43, `conj1` and `conj2` 33.
+ghost use Rattle.std.specs.Prelude.{◌≡◌, codes, IfOk};
+ghost use Rattle.fp_conclude.specs.Logic.{truth_type, binary_type, equal, true_constant, connective, conjunction};
+ghost use Rattle.fp_conclude.specs.Outcomes.{Answers, gives};
+ghost use Rattle.fp_kernel.specs.Definitions.{Within};
+ghost use Rattle.fp_kernel.specs.Theorems.{from_one, from_both};
+ghost use Rattle.fp_logic.specs.Derived.{conj1_of, conj2_of};
+ghost use Rattle.fp_logic.specs.Schemas.{held, both_true};
+ghost use Rattle.fp_logic.specs.Shapes.{right};
+ghost use Rattle.fp_logic.specs.Steps.{plain, by_one, by_both};
+
+use crate::choosing::{applying, conjunct};
+use crate::holding::{carry, hold};
+use crate::parts::conjunction_parts;
+use crate::shapes::left;
+use crate::steps::{combine, own};
+use crate::unfolding::conjunction_meaning;
+use fp_conclude::{RuleFault, connective, true_constant};
+use fp_kernel::{Defs, Thm};
+use std::alloc::{AllocError, Global};
+
+// `and = and`
+#[tactic(auto, unfolding(fp_term::specs::Names::is_name))]
+fn own_and(alloc: Global, defs: &Defs) -> Result<Thm, AllocError>
+    ensures { IfOk result (λ th. th ≡ plain defs.now (equal (binary_type truth_type truth_type) (connective (codes "and")) (connective (codes "and")))) }
+{
+    let and = connective(alloc, b"and")?;
+    own(alloc, defs, &and)
+}
+
+// `(T /\ T) = (p /\ q)` from `T = p` and `T = q`.
+fn conjoined_sides(alloc: Global, defs: &Defs, first: &Thm, second: &Thm) -> Result<Thm, AllocError>
+    requires first { first.now ≡ by_one defs.now first.now (held (right first.now.concl)) }
+    requires second { second.now ≡ by_one defs.now second.now (held (right second.now.concl)) }
+    ensures { IfOk result (λ th. th ≡ by_both defs.now first.now second.now (equal truth_type (conjunction true_constant true_constant) (conjunction (right first.now.concl) (right second.now.concl)))) }
+{
+    let _hyps = first.hyps();
+    let _promises = first.promises();
+    let own = own_and(alloc, defs)?;
+    let once = combine(alloc, defs, &own, first)?;
+    combine(alloc, defs, &once, second)
+}
+
+// `(T /\ T) = (p /\ q)` from `p` and `q`.
+fn conjoined_truths(alloc: Global, defs: &Defs, a: &Thm, b: &Thm) -> Result<Thm, AllocError>
+    requires first_within { Within a.now.defs defs.now }
+    requires second_within { Within b.now.defs defs.now }
+    ensures { IfOk result (λ th. th ≡ by_both defs.now a.now b.now (equal truth_type (conjunction true_constant true_constant) (conjunction a.now.concl b.now.concl))) }
+{
+    let first = hold(alloc, defs, a)?;
+    let second = hold(alloc, defs, b)?;
+    conjoined_sides(alloc, defs, &first, &second)
+}
+
+// `(T /\ T) = ((%f. f T T) = (%f. f T T))`
+fn truths_meaning(alloc: Global, defs: &Defs) -> Result<Thm, AllocError>
+    ensures { IfOk result (λ th. th ≡ plain defs.now (equal truth_type (conjunction true_constant true_constant) (both_true true_constant true_constant))) }
+{
+    let truth = true_constant(alloc)?;
+    conjunction_meaning(alloc, defs, &truth, &truth)
+}
+
+// `(%f. f T T) = (%f. f T T)`
+fn own_application(alloc: Global, defs: &Defs) -> Result<Thm, AllocError>
+    ensures { IfOk result (λ th. th ≡ plain defs.now (both_true true_constant true_constant)) }
+{
+    let truth = true_constant(alloc)?;
+    let term = applying(alloc, &truth, &truth)?;
+    own(alloc, defs, &term)
+}
+
+// What follows from `(T /\ T) = p`.
+fn conclude_from(alloc: Global, defs: &Defs, th: &Thm) -> Result<Thm, AllocError>
+    requires { th.now ≡ by_one defs.now th.now (equal truth_type (conjunction true_constant true_constant) (right th.now.concl)) }
+    ensures { IfOk result (λ p. p ≡ by_one defs.now th.now (right th.now.concl)) }
+{
+    let _hyps = th.hyps();
+    let _promises = th.promises();
+    let meaning = truths_meaning(alloc, defs)?;
+    let own = own(alloc, defs, left(meaning.concl()))?;
+    let third = own_application(alloc, defs)?;
+    carry(alloc, defs, &meaning, th, &own, &third)
+}
+
+/// `p /\ q` from `p` and `q`, for formulas.
+pub fn conjoined(alloc: Global, defs: &Defs, a: &Thm, b: &Thm) -> Result<Thm, AllocError>
+    requires first_within { Within a.now.defs defs.now }
+    requires second_within { Within b.now.defs defs.now }
+    ensures { IfOk result (λ th. th ≡ by_both defs.now a.now b.now (conjunction a.now.concl b.now.concl)) }
+{
+    let joined = conjoined_truths(alloc, defs, a, b)?;
+    conclude_from(alloc, defs, &joined)
+}
+
+/// `p /\ q` from `p` and `q`.
+pub fn conj(alloc: Global, defs: &Defs, a: &Thm, b: &Thm) -> Result<Thm, RuleFault>
+    requires first_within { Within a.now.defs defs.now }
+    requires second_within { Within b.now.defs defs.now }
+    ensures { Answers result (from_both defs.now a.now b.now (gives (conjunction a.now.concl b.now.concl))) }
+{
+    Ok(conjoined(alloc, defs, a, b)?)
+}
+
+/// `p` from `p /\ q`.
+pub fn conj1(alloc: Global, defs: &Defs, a: &Thm) -> Result<Thm, RuleFault>
+    requires { Within a.now.defs defs.now }
+    ensures { Answers result (from_one defs.now a.now a.now.hyps (conj1_of a.now.concl)) }
+{
+    let parts = conjunction_parts(alloc, a.concl())?;
+    let Some((left, right)) = parts else {
+        return Err(RuleFault::Shape);
+    };
+    Ok(conjunct(alloc, defs, true, a, left, right)?)
+}
+
+/// `q` from `p /\ q`.
+pub fn conj2(alloc: Global, defs: &Defs, a: &Thm) -> Result<Thm, RuleFault>
+    requires { Within a.now.defs defs.now }
+    ensures { Answers result (from_one defs.now a.now a.now.hyps (conj2_of a.now.concl)) }
+{
+    let parts = conjunction_parts(alloc, a.concl())?;
+    let Some((left, right)) = parts else {
+        return Err(RuleFault::Shape);
+    };
+    Ok(conjunct(alloc, defs, false, a, left, right)?)
+}

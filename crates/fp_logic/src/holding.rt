@@ -1,0 +1,179 @@
+//! What is true, and equations with `T`.
+ghost use Rattle.std.specs.Prelude.{◌≡◌, IfOk};
+ghost use Rattle.fp_term.specs.Terms.{bound};
+ghost use Rattle.fp_conclude.specs.Logic.{truth_type, equal, true_constant};
+ghost use Rattle.fp_kernel.specs.Definitions.{Within};
+ghost use Rattle.fp_logic.specs.Shapes.{left, right};
+ghost use Rattle.fp_logic.specs.Steps.{plain, from_itself, by_one, by_both, own_equality, CanCarry, CanEstablish, CanConvert, CanFold};
+ghost use Rattle.fp_logic.specs.Schemas.{p_variable, q_variable, identity, true_meaning, held};
+
+use crate::equations::{equality_of, swap, turn};
+use crate::instances::instance;
+use crate::shapes;
+use crate::steps::{assumed, chain, definition, equate, own, replace};
+use fp_conclude::{abstraction, equation, true_constant, truth_type};
+use fp_kernel::{Defs, Thm};
+use fp_term::{Name, Term};
+use std::alloc::{AllocError, Global};
+
+/// That equality of formulas is itself.
+pub fn truth_equality(alloc: Global, defs: &Defs) -> Result<Thm, AllocError>
+    ensures { IfOk result (λ e. e ≡ plain defs.now (own_equality truth_type)) }
+{
+    let ty = truth_type(alloc)?;
+    equality_of(alloc, defs, &ty)
+}
+
+/// `u` from `s = t`, `s = u`, `s = s` and `t`.
+pub fn carry(
+    alloc: Global,
+    defs: &Defs,
+    first: &Thm,
+    second: &Thm,
+    own: &Thm,
+    third: &Thm,
+) -> Result<Thm, AllocError>
+    requires { CanCarry defs.now first.now second.now own.now third.now }
+    ensures { IfOk result (λ th. th ≡ by_both defs.now first.now second.now (right second.now.concl)) }
+{
+    let equality = truth_equality(alloc, defs)?;
+    let turned = turn(alloc, defs, &equality, first, second, own)?;
+    replace(alloc, defs, &turned, third)
+}
+
+/// `%p. p`
+pub fn identity(alloc: Global) -> Result<Term, AllocError>
+    ensures { IfOk result (λ t. t ≡ identity) }
+{
+    let body = Term::bound(alloc, 0)?;
+    abstraction(alloc, &truth_type(alloc)?, &body)
+}
+
+// `(%p. p) = (%p. p)`
+fn own_identity(alloc: Global, defs: &Defs) -> Result<Thm, AllocError>
+    ensures { IfOk result (λ th. th ≡ plain defs.now true_meaning) }
+{
+    let term = identity(alloc)?;
+    own(alloc, defs, &term)
+}
+
+// `s = ((%p. p) = (%p. p))` from `s = T`.
+fn with_meaning(alloc: Global, defs: &Defs, th: &Thm) -> Result<Thm, AllocError>
+    requires within { Within th.now.defs defs.now }
+    requires shape { th.now.concl ≡ equal truth_type (left th.now.concl) true_constant }
+    ensures { IfOk result (λ m. m ≡ by_one defs.now th.now (equal truth_type (left th.now.concl) true_meaning)) }
+{
+    let meaning = definition(alloc, defs, 1)?;
+    chain(alloc, defs, th, &meaning)
+}
+
+/// `u` from `s = T`, `s = u` and `s = s`.
+pub fn establish(
+    alloc: Global,
+    defs: &Defs,
+    first: &Thm,
+    second: &Thm,
+    own: &Thm,
+) -> Result<Thm, AllocError>
+    requires { CanEstablish defs.now first.now second.now own.now }
+    ensures { IfOk result (λ th. th ≡ by_both defs.now first.now second.now (right second.now.concl)) }
+{
+    let first = with_meaning(alloc, defs, first)?;
+    let third = own_identity(alloc, defs)?;
+    carry(alloc, defs, &first, second, own, &third)
+}
+
+/// `T = T`
+fn own_truth(alloc: Global, defs: &Defs) -> Result<Thm, AllocError>
+    ensures { IfOk result (λ th. th ≡ plain defs.now (held true_constant)) }
+{
+    let term = true_constant(alloc)?;
+    own(alloc, defs, &term)
+}
+
+/// `T`
+pub fn truth_itself(alloc: Global, defs: &Defs) -> Result<Thm, AllocError>
+    ensures { IfOk result (λ th. th ≡ plain defs.now true_constant) }
+{
+    let own = own_truth(alloc, defs)?;
+    establish(alloc, defs, &own, &own, &own)
+}
+
+/// `q` from `p`, by `p = q` without hypotheses.
+pub fn convert(alloc: Global, defs: &Defs, equation: &Thm, th: &Thm) -> Result<Thm, AllocError>
+    requires { CanConvert defs.now equation.now th.now }
+    ensures { IfOk result (λ q. q ≡ by_one defs.now th.now (right equation.now.concl)) }
+{
+    let _hyps = th.hyps();
+    let _promises = th.promises();
+    replace(alloc, defs, equation, th)
+}
+
+/// `p`, the variable.
+#[tactic(auto, unfolding(fp_term::specs::Names::is_name))]
+pub fn p_variable(alloc: Global) -> Result<Term, AllocError>
+    ensures { IfOk result (λ t. t ≡ p_variable) }
+{
+    Term::free(alloc, Name::of(alloc, b"p")?, truth_type(alloc)?)
+}
+
+/// `q`, the variable.
+#[tactic(auto, unfolding(fp_term::specs::Names::is_name))]
+pub fn q_variable(alloc: Global) -> Result<Term, AllocError>
+    ensures { IfOk result (λ t. t ≡ q_variable) }
+{
+    Term::free(alloc, Name::of(alloc, b"q")?, truth_type(alloc)?)
+}
+
+// `T = p` from `p`.
+fn held_from(alloc: Global, defs: &Defs, truth: &Thm, term: &Term) -> Result<Thm, AllocError>
+    requires truth { truth.now ≡ plain defs.now true_constant }
+    requires term { term.now ≡ p_variable }
+    ensures { IfOk result (λ th. th ≡ record (from_itself defs.now p_variable) { concl = held p_variable }) }
+{
+    let itself = assumed(alloc, defs, term)?;
+    equate(alloc, defs, truth, &itself)
+}
+
+// `p` from `T = p`.
+fn from_held(alloc: Global, defs: &Defs, truth: &Thm, term: &Term) -> Result<Thm, AllocError>
+    requires truth { truth.now ≡ plain defs.now true_constant }
+    requires term { term.now ≡ p_variable }
+    ensures { IfOk result (λ th. th ≡ record (from_itself defs.now (held p_variable)) { concl = p_variable }) }
+{
+    let ty = truth_type(alloc)?;
+    let held = equation(alloc, &ty, truth.concl(), term)?;
+    let itself = assumed(alloc, defs, &held)?;
+    replace(alloc, defs, &itself, truth)
+}
+
+// `p = (T = p)`
+fn held_schema(alloc: Global, defs: &Defs) -> Result<Thm, AllocError>
+    ensures { IfOk result (λ th. th ≡ plain defs.now (equal truth_type p_variable (held p_variable))) }
+{
+    let truth = truth_itself(alloc, defs)?;
+    let term = p_variable(alloc)?;
+    let first = from_held(alloc, defs, &truth, &term)?;
+    let second = held_from(alloc, defs, &truth, &term)?;
+    equate(alloc, defs, &first, &second)
+}
+
+/// `T = p` from `p`.
+pub fn hold(alloc: Global, defs: &Defs, th: &Thm) -> Result<Thm, AllocError>
+    requires { Within th.now.defs defs.now }
+    ensures { IfOk result (λ h. h ≡ by_one defs.now th.now (held th.now.concl)) }
+{
+    let schema = held_schema(alloc, defs)?;
+    let equation = instance(alloc, defs, &schema, th.concl(), th.concl())?;
+    convert(alloc, defs, &equation, th)
+}
+
+/// `p` from `q`, by `p = q` without hypotheses.
+pub fn fold(alloc: Global, defs: &Defs, equation: &Thm, th: &Thm) -> Result<Thm, AllocError>
+    requires { CanFold defs.now equation.now th.now }
+    ensures { IfOk result (λ p. p ≡ by_one defs.now th.now (left equation.now.concl)) }
+{
+    let ty = truth_type(alloc)?;
+    let swapped = swap(alloc, defs, equation, &ty, shapes::left(equation.concl()))?;
+    convert(alloc, defs, &swapped, th)
+}

@@ -1,0 +1,166 @@
+//! Forms of implications. Primitive steps: `mp` 50, `undisch` 51, `disch` 95.
+ghost use Rattle.std.specs.Prelude.{◌≡◌, IfOk};
+ghost use Rattle.fp_conclude.specs.Logic.{truth_type, equal, conjunction, implication};
+ghost use Rattle.fp_conclude.specs.Hypotheses.{without};
+ghost use Rattle.fp_conclude.specs.Outcomes.{Answers};
+ghost use Rattle.fp_kernel.specs.Definitions.{Within};
+ghost use Rattle.fp_kernel.specs.Start.{signature_of};
+ghost use Rattle.fp_kernel.specs.Derivability.{IsFormula};
+ghost use Rattle.fp_kernel.specs.Theorems.{from_one, from_both};
+ghost use Rattle.fp_logic.specs.Derived.{mp_of, undisch_from, disch_of};
+ghost use Rattle.fp_logic.specs.Schemas.{implied};
+ghost use Rattle.fp_logic.specs.Steps.{by_one, by_both, from_itself, without_one, IsImplication};
+
+use crate::choosing::conjunct;
+use crate::conjunctions::conjoined;
+use crate::equations::swap;
+use crate::holding::{convert, fold};
+use crate::parts::implication_parts;
+use crate::steps::{assumed, equate, replace};
+use crate::unfolding::implication_meaning;
+use crate::{conclude, shapes};
+use fp_conclude::{RuleFault, conjunction, truth_type};
+use fp_kernel::{Defs, Thm};
+use fp_term::Term;
+use std::alloc::{AllocError, Global};
+
+/// `(l /\ r) = l` from `l --> r`.
+pub fn implied_from(
+    alloc: Global,
+    defs: &Defs,
+    a: &Thm,
+    left: &Term,
+    right: &Term,
+) -> Result<Thm, AllocError>
+    requires { IsImplication defs.now a.now left.now right.now }
+    ensures { IfOk result (λ th. th ≡ by_one defs.now a.now (implied left.now right.now)) }
+{
+    let meaning = implication_meaning(alloc, defs, left, right)?;
+    convert(alloc, defs, &meaning, a)
+}
+
+// `l = (l /\ r)` from `l --> r`.
+fn conjunction_from(
+    alloc: Global,
+    defs: &Defs,
+    a: &Thm,
+    left: &Term,
+    right: &Term,
+) -> Result<Thm, AllocError>
+    requires { IsImplication defs.now a.now left.now right.now }
+    ensures { IfOk result (λ th. th ≡ by_one defs.now a.now (equal truth_type left.now (conjunction left.now right.now))) }
+{
+    let implied = implied_from(alloc, defs, a, left, right)?;
+    let ty = truth_type(alloc)?;
+    swap(alloc, defs, &implied, &ty, shapes::left(implied.concl()))
+}
+
+/// `r` from `l --> r` and `l`, for formulas.
+pub fn modus(
+    alloc: Global,
+    defs: &Defs,
+    a: &Thm,
+    b: &Thm,
+    left: &Term,
+    right: &Term,
+) -> Result<Thm, AllocError>
+    requires implication { IsImplication defs.now a.now left.now right.now }
+    requires within { Within b.now.defs defs.now }
+    requires premise { b.now.concl ≡ left.now }
+    ensures { IfOk result (λ th. th ≡ by_both defs.now a.now b.now right.now) }
+{
+    let equation = conjunction_from(alloc, defs, a, left, right)?;
+    let both = replace(alloc, defs, &equation, b)?;
+    conjunct(alloc, defs, false, &both, left, right)
+}
+
+/// `q` from `p --> q` and `p`.
+pub fn mp(alloc: Global, defs: &Defs, a: &Thm, b: &Thm) -> Result<Thm, RuleFault>
+    requires first_within { Within a.now.defs defs.now }
+    requires second_within { Within b.now.defs defs.now }
+    ensures { Answers result (from_both defs.now a.now b.now (mp_of a.now.concl b.now.concl)) }
+{
+    let concl = conclude::mp(alloc, a.concl(), b.concl())?;
+    Ok(modus(alloc, defs, a, b, b.concl(), &concl)?)
+}
+
+// `r` from `l --> r`, with the hypothesis `l`.
+fn undischarged(
+    alloc: Global,
+    defs: &Defs,
+    a: &Thm,
+    left: &Term,
+    right: &Term,
+) -> Result<Thm, AllocError>
+    requires { IsImplication defs.now a.now left.now right.now }
+    ensures { IfOk result (λ th. th ≡ by_both defs.now a.now (from_itself defs.now left.now) right.now) }
+{
+    let itself = assumed(alloc, defs, left)?;
+    modus(alloc, defs, a, &itself, left, right)
+}
+
+/// `q` from `p --> q`, with the hypothesis `p` after the others.
+pub fn undisch(alloc: Global, defs: &Defs, a: &Thm) -> Result<Thm, RuleFault>
+    requires { Within a.now.defs defs.now }
+    ensures { Answers result (undisch_from defs.now a.now) }
+{
+    let parts = implication_parts(alloc, a.concl())?;
+    let Some((left, right)) = parts else {
+        return Err(RuleFault::Shape);
+    };
+    Ok(undischarged(alloc, defs, a, left, right)?)
+}
+
+// `t /\ p` from `p`, with the hypothesis `t`.
+fn with_assumption(alloc: Global, defs: &Defs, term: &Term, a: &Thm) -> Result<Thm, AllocError>
+    requires within { Within a.now.defs defs.now }
+    requires formula { IsFormula (signature_of defs.now) term.now }
+    ensures { IfOk result (λ th. th ≡ by_both defs.now (from_itself defs.now term.now) a.now (conjunction term.now a.now.concl)) }
+{
+    let itself = assumed(alloc, defs, term)?;
+    conjoined(alloc, defs, &itself, a)
+}
+
+// `l` from `l /\ r` itself.
+fn first_assumed(alloc: Global, defs: &Defs, left: &Term, right: &Term) -> Result<Thm, AllocError>
+    requires left { IsFormula (signature_of defs.now) left.now }
+    requires right { IsFormula (signature_of defs.now) right.now }
+    ensures { IfOk result (λ th. th ≡ by_one defs.now (from_itself defs.now (conjunction left.now right.now)) left.now) }
+{
+    let both = conjunction(alloc, left, right)?;
+    let itself = assumed(alloc, defs, &both)?;
+    conjunct(alloc, defs, true, &itself, left, right)
+}
+
+// `(t /\ p) = t` from `p`, without the hypothesis `t`.
+fn implied_without(alloc: Global, defs: &Defs, term: &Term, a: &Thm) -> Result<Thm, AllocError>
+    requires within { Within a.now.defs defs.now }
+    requires formula { IsFormula (signature_of defs.now) term.now }
+    ensures { IfOk result (λ th. th ≡ without_one defs.now term.now a.now (implied term.now a.now.concl)) }
+{
+    let _hyps = a.hyps();
+    let _promises = a.promises();
+    let first = with_assumption(alloc, defs, term, a)?;
+    let second = first_assumed(alloc, defs, term, a.concl())?;
+    equate(alloc, defs, &first, &second)
+}
+
+/// `t --> p` from `p`, without the hypothesis `t`, for formulas.
+pub fn discharged(alloc: Global, defs: &Defs, term: &Term, a: &Thm) -> Result<Thm, AllocError>
+    requires within { Within a.now.defs defs.now }
+    requires formula { IsFormula (signature_of defs.now) term.now }
+    ensures { IfOk result (λ th. th ≡ without_one defs.now term.now a.now (implication term.now a.now.concl)) }
+{
+    let implied = implied_without(alloc, defs, term, a)?;
+    let meaning = implication_meaning(alloc, defs, term, a.concl())?;
+    fold(alloc, defs, &meaning, &implied)
+}
+
+/// `t --> p` from `p`, without the hypothesis `t`.
+pub fn disch(alloc: Global, defs: &Defs, term: &Term, a: &Thm) -> Result<Thm, RuleFault>
+    requires { Within a.now.defs defs.now }
+    ensures { Answers result (from_one defs.now a.now (without term.now a.now.hyps) (disch_of (signature_of defs.now) term.now a.now.concl)) }
+{
+    let term = fp_conclude::assume(alloc, defs.signature(), term)?;
+    Ok(discharged(alloc, defs, &term, a)?)
+}
