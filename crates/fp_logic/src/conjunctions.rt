@@ -1,4 +1,4 @@
-//! Forms of conjunctions. Primitive steps: `conj` 43, `conj1` and `conj2` 33.
+//! Forms of conjunctions. Primitive steps: `conj` 52, `conj1` and `conj2` 32.
 ghost use Rattle.std.specs.Prelude.{◌≡◌, codes, IfOk};
 ghost use Rattle.fp_conclude.specs.Logic.{truth_type, binary_type, equal, true_constant, connective, conjunction};
 ghost use Rattle.fp_conclude.specs.Outcomes.{Answers, gives};

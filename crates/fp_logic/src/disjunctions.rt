@@ -1,4 +1,4 @@
-//! What a disjunction says, and forms of disjunctions. Primitive steps: `cases` 330.
+//! What a disjunction says, and forms of disjunctions. Primitive steps: `cases` 336.
 ghost use Rattle.std.specs.Prelude.{◌≡◌, codes, IfOk};
 ghost use Rattle.fp_term.specs.Terms.{app};
 ghost use Rattle.fp_conclude.specs.Logic.{truth_type, equal, true_constant, quantifier, implication};

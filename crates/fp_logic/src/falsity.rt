@@ -1,4 +1,4 @@
-//! Forms of `F`. Primitive steps: `false_elim` 24.
+//! Forms of `F`. Primitive steps: `false_elim` 23.
 ghost use Rattle.std.specs.Prelude.{◌≡◌, codes, IfOk};
 ghost use Rattle.fp_term.specs.Terms.{app, term_eq};
 ghost use Rattle.fp_term.specs.Signatures.{IsWellTyped};

@@ -1,4 +1,4 @@
-//! Forms of implications. Primitive steps: `mp` 50, `undisch` 51, `disch` 95.
+//! Forms of implications. Primitive steps: `mp` 49, `undisch` 50, `disch` 103.
 ghost use Rattle.std.specs.Prelude.{◌≡◌, IfOk};
 ghost use Rattle.fp_conclude.specs.Logic.{truth_type, equal, conjunction, implication};
 ghost use Rattle.fp_conclude.specs.Hypotheses.{without};

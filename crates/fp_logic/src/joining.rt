@@ -1,4 +1,4 @@
-//! Disjunctions from one of their formulas. Primitive steps: `disj1` and `disj2` 390.
+//! Disjunctions from one of their formulas. Primitive steps: `disj1` and `disj2` 332.
 ghost use Rattle.std.specs.Prelude.{◌≡◌, codes, IfOk};
 ghost use Rattle.fp_term.specs.Terms.{abs, closed};
 ghost use Rattle.fp_conclude.specs.Logic.{truth_type, binary_type, equal, true_constant, connective, implication};

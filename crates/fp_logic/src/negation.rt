@@ -1,4 +1,4 @@
-//! Forms of negations. Primitive steps: `not_elim` 7, `not_intro` 12, `eqf` 88.
+//! Forms of negations. Primitive steps: `not_elim` 7, `not_intro` 12, `eqf` 82.
 ghost use Rattle.std.specs.Prelude.{◌≡◌, IfOk};
 ghost use Rattle.fp_conclude.specs.Logic.{truth_type, equal, false_constant, conjunction, implication, negation};
 ghost use Rattle.fp_conclude.specs.Outcomes.{Answers};
