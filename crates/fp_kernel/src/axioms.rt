@@ -38,16 +38,39 @@ fn expanded(alloc: Global, function: &Term) -> Result<Term, AllocError>
     abstraction(alloc, &alpha(alloc)?, &body)
 }
 
-// `P x --> P (select P)`
+// `P`, a predicate on `'a`
 #[tactic(auto, unfolding(fp_term::specs::Names::is_name))]
+fn predicate(alloc: Global) -> Result<Term, AllocError>
+    ensures { IfOk result (λ t. t ≡ free (codes "P") (predicate_type alpha)) }
+{
+    let ty = predicate_over(alloc, &alpha(alloc)?)?;
+    variable(alloc, b"P", &ty)
+}
+
+// `P x`
+#[tactic(auto, unfolding(fp_term::specs::Names::is_name))]
+fn predicate_of_any(alloc: Global, predicate: &Term) -> Result<Term, AllocError>
+    ensures { IfOk result (λ t. t ≡ app predicate.now (free (codes "x") alpha)) }
+{
+    let ty = alpha(alloc)?;
+    apply(alloc, predicate, &variable(alloc, b"x", &ty)?)
+}
+
+// `P (select P)`
+fn predicate_of_selected(alloc: Global, predicate: &Term) -> Result<Term, AllocError>
+    ensures { IfOk result (λ t. t ≡ app predicate.now (select alpha predicate.now)) }
+{
+    let ty = alpha(alloc)?;
+    apply(alloc, predicate, &select(alloc, &ty, predicate)?)
+}
+
+// `P x --> P (select P)`
 fn selection(alloc: Global) -> Result<Term, AllocError>
     ensures { IfOk result (λ t. t ≡ selection) }
 {
-    let ty = alpha(alloc)?;
-    let predicate = variable(alloc, b"P", &predicate_over(alloc, &ty)?)?;
-    let given = apply(alloc, &predicate, &variable(alloc, b"x", &ty)?)?;
-    let selected = apply(alloc, &predicate, &select(alloc, &ty, &predicate)?)?;
-    implication(alloc, &given, &selected)
+    let predicate = predicate(alloc)?;
+    let given = predicate_of_any(alloc, &predicate)?;
+    implication(alloc, &given, &predicate_of_selected(alloc, &predicate)?)
 }
 
 // A bound function applied to a bound number.

@@ -151,14 +151,21 @@ fn ex_is(alloc: Global) -> Result<Term, AllocError>
     quantifier_is(alloc, b"ex", &body)
 }
 
+// `(p --> r) --> (q --> r) --> r`, where the numbers 2, 1 and 0 stand for `p`, `q` and `r`
+fn either_implies(alloc: Global) -> Result<Term, AllocError>
+    ensures { IfOk result (λ t. t ≡ implication (implication (bound 2) (bound 0)) (implication (implication (bound 1) (bound 0)) (bound 0))) }
+{
+    let second = implication(alloc, &implied(alloc, 1, 0)?, &Term::bound(alloc, 0)?)?;
+    implication(alloc, &implied(alloc, 2, 0)?, &second)
+}
+
 // `or = (%p q. !r. (p --> r) --> (q --> r) --> r)`
 #[tactic(auto, unfolding(fp_term::specs::Names::is_name))]
 fn or_is(alloc: Global) -> Result<Term, AllocError>
     ensures { IfOk result (λ t. t ≡ or_is) }
 {
-    let second = implication(alloc, &implied(alloc, 1, 0)?, &Term::bound(alloc, 0)?)?;
-    let both = implication(alloc, &implied(alloc, 2, 0)?, &second)?;
-    let body = for_all(alloc, &truth_type(alloc)?, &both)?;
+    let ty = truth_type(alloc)?;
+    let body = for_all(alloc, &ty, &either_implies(alloc)?)?;
     binary_is(alloc, b"or", &body)
 }
 
@@ -171,19 +178,20 @@ fn false_is(alloc: Global) -> Result<Term, AllocError>
     equation(alloc, &ty, &false_constant(alloc)?, &meaning)
 }
 
+// `%p. p --> F`
+fn negated(alloc: Global) -> Result<Term, AllocError>
+    ensures { IfOk result (λ t. t ≡ abs truth_type (implication (bound 0) false_constant)) }
+{
+    let body = implication(alloc, &Term::bound(alloc, 0)?, &false_constant(alloc)?)?;
+    abstraction(alloc, &truth_type(alloc)?, &body)
+}
+
 // `not = (%p. p --> F)`
 fn not_is(alloc: Global) -> Result<Term, AllocError>
     ensures { IfOk result (λ t. t ≡ not_is) }
 {
-    let ty = truth_type(alloc)?;
-    let body = implication(alloc, &Term::bound(alloc, 0)?, &false_constant(alloc)?)?;
-    let meaning = abstraction(alloc, &ty, &body)?;
-    equation(
-        alloc,
-        &predicate_over(alloc, &ty)?,
-        &negation_constant(alloc)?,
-        &meaning,
-    )
+    let ty = predicate_over(alloc, &truth_type(alloc)?)?;
+    equation(alloc, &ty, &negation_constant(alloc)?, &negated(alloc)?)
 }
 
 /// The definition of the connective of that number: `T`, `/\`, `-->`, `!`, `?`, `\/`, `F`, `~`.
