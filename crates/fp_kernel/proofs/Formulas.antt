@@ -1,5 +1,5 @@
--- Whatever is derivable is a formula, and so is each of its hypotheses.
-use Rattle.std.proofs.Common.{◌≡◌, ◌∙◌, ℕ, Bool, true, false, cond, not, ◌&&◌, ◌||◌, List, [], ◌∷◌, ◌++◌, map, refl, sym, ap}
+-- Whatever is derivable is a formula.
+use Rattle.std.proofs.Common.{◌≡◌, ◌∙◌, ℕ, ◌&&◌, List, [], ◌∷◌, refl, sym, ap}
 use Rattle.std.specs.Prelude.{Some, None, codes}
 use Rattle.std.specs.Str.{bytes_eq}
 use Rattle.std.proofs.lemmas.Option.{none-some, same_Some}
@@ -8,11 +8,11 @@ use Rattle.std.proofs.lemmas.Slice.Eq.{bytes_eq-Decides}
 use Rattle.fp_term.specs.declared.signature.Signature.{Signature}
 use Rattle.fp_term.specs.Names.{function, truth, equality}
 use Rattle.fp_term.specs.Types.{Typ, type_eq, found_type}
-use Rattle.fp_term.specs.Terms.{Tm, constant, app, abs, term_eq, opened, closed, found, replaced, retyped_term}
+use Rattle.fp_term.specs.Terms.{Tm, constant, app, abs, opened, closed, found, replaced, retyped_term}
 use Rattle.fp_term.specs.Typing.{type_under, function_type}
 use Rattle.fp_term.specs.Signatures.{arity_of, IsType, IsOver, IsWellTyped, unknown_in}
 use Rattle.fp_term.proofs.Choices.{chosen}
-use Rattle.fp_term.proofs.Equal.{type_eq-decides, term_eq-decides}
+use Rattle.fp_term.proofs.Equal.{type_eq-decides}
 use Rattle.fp_term.proofs.Known.{known}
 use Rattle.fp_term.proofs.Typed.{app_parts, abs_parts, same_function, app_typed, abs_typed, opened_typed, closed_typed, replaced_typed, opened_over, closed_over, replaced_over, typed_over}
 use Rattle.fp_term.proofs.Retyped.{retyped_typed, retyped_over}
@@ -20,7 +20,6 @@ use Rattle.fp_kernel.specs.Definitions.{Def}
 use Rattle.fp_conclude.specs.Logic.{truth_type, alpha, predicate_type, equality_type, equal}
 use Rattle.fp_kernel.specs.Start.{signature_of, eta, selection, infinity, axioms, true_is, and_is, imp_is, all_is, ex_is, or_is, false_is, not_is, connectives}
 use Rattle.fp_kernel.specs.Derivability.{IsIn, first, later}
-use Rattle.fp_conclude.specs.Hypotheses.{member, union, without}
 use Rattle.fp_conclude.specs.Checks.{AreTerms, AreTypesOf}
 use Rattle.fp_kernel.specs.Derivability.{IsFormula, AreFormulas}
 use Rattle.fp_kernel.specs.Derivability.{Derives, refl as reflexive, trans, mk_comb, lam, beta, assume, eq_mp, antisym, inst, inst_ty, axiom_of, connective_of, constant_of, abs_rep_of, rep_abs_of, promise_of, as_set}
@@ -137,7 +136,7 @@ found_typed g (pair ∷ rest) h a v u e =
     rw (← both.1, ← same_Some pair.2 u f) h.0)
     (λ _ f. found_typed g rest h.1 a v u f) e
 
-replaced_formula : (g : Signature) (pairs : List (List ℕ × Typ × Tm)) → AreTerms g pairs → (p : Tm) → IsFormula g p → IsFormula g (replaced pairs p)
+pub replaced_formula : (g : Signature) (pairs : List (List ℕ × Typ × Tm)) → AreTerms g pairs → (p : Tm) → IsFormula g p → IsFormula g (replaced pairs p)
 replaced_formula g pairs h p k = record {
   typed = replaced_typed pairs (λ a v u e. (found_typed g pairs h a v u e).typed) [] p truth_type k.typed;
   over = replaced_over g pairs (λ a v u e. (found_typed g pairs h a v u e).over) p k.over;
@@ -147,7 +146,7 @@ found_is : (g : Signature) (pairs : List (List ℕ × Typ)) → AreTypesOf g pai
 found_is g [] h a t e = absurd (none-some t e)
 found_is g (pair ∷ rest) h a t e = chosen (bytes_eq pair.0 a) _ _ _ (IsType g t) (λ _ f. rw (← same_Some pair.1 t f) h.0) (λ _ f. found_is g rest h.1 a t f) e
 
-retyped_formula : (g : Signature) (pairs : List (List ℕ × Typ)) → AreTypesOf g pairs → (p : Tm) → IsFormula g p → IsFormula g (retyped_term pairs p)
+pub retyped_formula : (g : Signature) (pairs : List (List ℕ × Typ)) → AreTypesOf g pairs → (p : Tm) → IsFormula g p → IsFormula g (retyped_term pairs p)
 retyped_formula g pairs h p k = record {
   typed = retyped_typed pairs [] p truth_type k.typed;
   over = retyped_over g pairs (found_is g pairs h) p k.over;
@@ -202,74 +201,3 @@ formula_of (abs_rep_of i h) = h
 formula_of (rep_abs_of i h) = h
 formula_of (promise_of i h) = h
 formula_of (as_set same d) = formula_of d
-
--- one of two tests holds
-either : (b c : Bool) (P : Type 0) → (b ≡ true → P) → (c ≡ true → P) → (b || c) ≡ true → P
-either true c P f h e = f refl
-either false c P f h e = h e
-
-or_else_true : (b c : Bool) → c ≡ true → (b || c) ≡ true
-or_else_true true c e = refl
-or_else_true false c e = e
-
--- lists of formulas
-module _ (g : Signature) where
-  formulas_append : (ts us : List Tm) → AreFormulas g ts → AreFormulas g us → AreFormulas g (ts ++ us)
-  formulas_append [] us h k = k
-  formulas_append (t ∷ ts) us h k = (h.0, formulas_append ts us h.1 k)
-
-  one_more_unless : (b : Bool) (ts : List Tm) (t : Tm) → AreFormulas g ts → IsFormula g t → AreFormulas g (cond b ts (ts ++ t ∷ []))
-  one_more_unless true ts t h k = h
-  one_more_unless false ts t h k = formulas_append ts (t ∷ []) h (k, tt)
-
-  formulas_union : (ts us : List Tm) → AreFormulas g ts → AreFormulas g us → AreFormulas g (union ts us)
-  formulas_union ts [] h k = h
-  formulas_union ts (u ∷ us) h k = formulas_union (cond (member u ts) ts (ts ++ u ∷ [])) us (one_more_unless (member u ts) ts u h k.0) k.1
-
-  one_more_if : (b : Bool) (t : Tm) (ts : List Tm) → IsFormula g t → AreFormulas g ts → AreFormulas g (cond b (t ∷ ts) ts)
-  one_more_if true t ts h k = (h, k)
-  one_more_if false t ts h k = k
-
-  formulas_without : (t : Tm) (ts : List Tm) → AreFormulas g ts → AreFormulas g (without t ts)
-  formulas_without t [] h = tt
-  formulas_without t (u ∷ us) h = one_more_if (not (term_eq t u)) u (without t us) h.0 (formulas_without t us h.1)
-
-  formulas_replaced : (pairs : List (List ℕ × Typ × Tm)) → AreTerms g pairs → (ts : List Tm) → AreFormulas g ts → AreFormulas g (map (replaced pairs) ts)
-  formulas_replaced pairs h [] k = tt
-  formulas_replaced pairs h (t ∷ ts) k = (replaced_formula g pairs h t k.0, formulas_replaced pairs h ts k.1)
-
-  formulas_retyped : (pairs : List (List ℕ × Typ)) → AreTypesOf g pairs → (ts : List Tm) → AreFormulas g ts → AreFormulas g (map (retyped_term pairs) ts)
-  formulas_retyped pairs h [] k = tt
-  formulas_retyped pairs h (t ∷ ts) k = (retyped_formula g pairs h t k.0, formulas_retyped pairs h ts k.1)
-
-  -- they are formulas just where each member is
-  pub member_formula : (ts : List Tm) (t : Tm) → AreFormulas g ts → member t ts ≡ true → IsFormula g t
-  member_formula [] t h e = cc
-  member_formula (u ∷ us) t h e = either (term_eq t u) (member t us) (IsFormula g t) (λ is. rw ((term_eq-decides t u).0 is) h.0) (λ is. member_formula us t h.1 is) e
-
-  each_formula : (ts : List Tm) → ((t : Tm) → member t ts ≡ true → IsFormula g t) → AreFormulas g ts
-  each_formula [] f = tt
-  each_formula (u ∷ us) f = (f u (rw ((term_eq-decides u u).1 refl) refl), each_formula us (λ t is. f t (or_else_true (term_eq t u) (member t us) is)))
-
-pub formulas_of : {defs : List Def} {promises : List (ℕ × Tm)} {hyps : List Tm} {p : Tm} → Derives defs promises hyps p → AreFormulas (signature_of defs) hyps
-formulas_of (reflexive s t h) = tt
-formulas_of {defs} (trans {hyps = hyps} {more = more} d e) = formulas_union (signature_of defs) hyps more (formulas_of d) (formulas_of e)
-formulas_of {defs} (mk_comb {hyps = hyps} {more = more} d e) = formulas_union (signature_of defs) hyps more (formulas_of d) (formulas_of e)
-formulas_of (lam name ty h apart d) = formulas_of d
-formulas_of (beta s ty body arg h) = tt
-formulas_of (assume t h) = (h, tt)
-formulas_of {defs} (eq_mp {hyps = hyps} {more = more} d e) = formulas_union (signature_of defs) hyps more (formulas_of d) (formulas_of e)
-formulas_of {defs} (antisym {hyps = hyps} {more = more} {p = p} {q = q} d e) =
-    formulas_union (signature_of defs) (without q hyps) (without p more) (formulas_without (signature_of defs) q hyps (formulas_of d)) (formulas_without (signature_of defs) p more (formulas_of e))
-formulas_of {defs} (inst {hyps = hyps} pairs h d) =
-    formulas_union (signature_of defs) [] (map (replaced pairs) hyps) tt (formulas_replaced (signature_of defs) pairs h hyps (formulas_of d))
-formulas_of {defs} (inst_ty {hyps = hyps} pairs h d) =
-    formulas_union (signature_of defs) [] (map (retyped_term pairs) hyps) tt (formulas_retyped (signature_of defs) pairs h hyps (formulas_of d))
-formulas_of (axiom_of i) = tt
-formulas_of (connective_of i) = tt
-formulas_of (constant_of i h) = tt
-formulas_of (abs_rep_of i h) = tt
-formulas_of (rep_abs_of i h) = tt
-formulas_of (promise_of i h) = tt
-formulas_of {defs} (as_set {hyps = hyps} {more = more} same d) =
-    each_formula (signature_of defs) more (λ t is. member_formula (signature_of defs) hyps t (formulas_of d) (same t ∙ is))

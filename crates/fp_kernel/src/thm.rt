@@ -96,7 +96,7 @@ impl Thm {
     }
 
     /// The formulas that it is concluded from, none twice.
-    #[tactic(auto, using(crate::proofs::Formulas::formulas_of))]
+    #[tactic(auto, using(crate::proofs::Assumed::formulas_of))]
     pub fn hyps(&self) -> &[Term]
         ensures value { result.now ≡ self.now.hyps }
         ensures formulas { AreFormulas (signature_of self.now.defs) self.now.hyps }
