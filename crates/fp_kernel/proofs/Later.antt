@@ -1,5 +1,5 @@
 -- What is derivable stays so over a longer list of definitions and with more promises.
-use Rattle.std.proofs.Common.{◌≡◌, ◌∙◌, ℕ, Bool, true, false, cond, ◌&&◌, ◌||◌, ◌==◌, List, [], ◌∷◌, ◌++◌, sym, ap, refl as same_path}
+use Rattle.std.proofs.Common.{◌≡◌, ℕ, Bool, true, false, cond, ◌&&◌, ◌||◌, ◌==◌, List, [], ◌∷◌, ◌++◌, refl as same_path}
 use Rattle.std.proofs.lemmas.Bool.Decides.{Decides-eqb}
 use Rattle.fp_term.specs.declared.signature.Signature.{Signature}
 use Rattle.fp_term.specs.Types.{Typ}
@@ -11,7 +11,7 @@ use Rattle.fp_kernel.specs.Definitions.{Def, Within, whole, newer}
 use Rattle.fp_kernel.specs.Start.{signature_of}
 use Rattle.fp_kernel.specs.Derivability.{IsIn, first, later}
 use Rattle.fp_kernel.specs.Derivability.{Derives, refl, trans, mk_comb, lam, beta, assume, eq_mp, antisym, inst, inst_ty, axiom_of, connective_of, constant_of, abs_rep_of, rep_abs_of, promise_of, as_set}
-use Rattle.fp_kernel.specs.Theorems.{Theorem, IsTheorem, promised, promise_union}
+use Rattle.fp_kernel.specs.Theorems.{promised, promise_union}
 use Rattle.fp_kernel.proofs.Growing.{Grows, one_more, type_grows, over_grows}
 
 -- each of the one list is one of the other

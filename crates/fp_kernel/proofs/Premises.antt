@@ -1,5 +1,5 @@
 -- The rules on theorems: each is over an older list of definitions, and the result has the promises of all.
-use Rattle.std.proofs.Common.{◌≡◌, ℕ, ◌==◌, Bool, true, false, cond, List, [], ◌∷◌, sym, refl as same_path}
+use Rattle.std.proofs.Common.{◌≡◌, ℕ, ◌==◌, Bool, true, false, cond, List, [], refl as same_path}
 use Rattle.fp_term.specs.Types.{Typ}
 use Rattle.fp_term.specs.Terms.{Tm}
 use Rattle.fp_conclude.specs.Logic.{truth_type, equal}
@@ -7,7 +7,7 @@ use Rattle.fp_conclude.specs.Hypotheses.{union, without, all_replaced, all_retyp
 use Rattle.fp_conclude.specs.Outcomes.{gives}
 use Rattle.fp_conclude.specs.Rules.{trans_of, mk_comb_of, lam_of, eq_mp_of, inst_of, inst_ty_of}
 use Rattle.fp_kernel.specs.Definitions.{Def, Within}
-use Rattle.fp_kernel.specs.Start.{signature_of, eta, selection, infinity, axioms, axiom_numbered, true_is, and_is, imp_is, all_is, ex_is, or_is, false_is, not_is, connectives, connective_numbered}
+use Rattle.fp_kernel.specs.Start.{signature_of, axioms, axiom_numbered, connectives, connective_numbered}
 use Rattle.fp_kernel.specs.Derivability.{IsIn, first, later}
 use Rattle.fp_kernel.specs.Derivability.{Derives, antisym, axiom_of, connective_of}
 use Rattle.fp_kernel.specs.Theorems.{Theorem, IsTheorem, promise_union}

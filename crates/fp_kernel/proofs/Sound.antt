@@ -1,16 +1,16 @@
 -- What a rule concludes from derivable premises is derivable.
-use Rattle.std.proofs.Common.{◌≡◌, ◌∙◌, ℕ, Bool, true, false, List, [], ◌∷◌, sym, ap, refl as same_path}
+use Rattle.std.proofs.Common.{◌≡◌, ◌∙◌, ℕ, true, List, [], ◌∷◌, sym, ap, refl as same_path}
 use Rattle.std.specs.Prelude.{Option, Some, None}
 use Rattle.std.proofs.lemmas.Option.{same_Some}
 use Rattle.fp_term.specs.Types.{Typ, type_eq}
-use Rattle.fp_term.specs.Terms.{Tm, constant, app, abs, term_eq, opened, closed, replaced, retyped_term}
-use Rattle.fp_term.specs.Typing.{type_under, function_type}
+use Rattle.fp_term.specs.Terms.{Tm, app, abs, term_eq, opened, replaced, retyped_term}
+use Rattle.fp_term.specs.Typing.{type_under}
 use Rattle.fp_term.specs.Signatures.{unknown_in_type}
 use Rattle.fp_term.proofs.Equal.{type_eq-decides, term_eq-decides}
 use Rattle.fp_term.proofs.Known.{type_known}
 use Rattle.fp_conclude.specs.Logic.{truth_type, equal}
-use Rattle.fp_conclude.specs.Hypotheses.{union, without, all_replaced, all_retyped_terms, occurs_in_any}
-use Rattle.fp_conclude.specs.Outcomes.{Outcome, gives, refused, unless, with_part, unknown_name, ill_typed_at, not_equation, not_redex, not_bool, differ, free_in_hyps}
+use Rattle.fp_conclude.specs.Hypotheses.{union, all_replaced, all_retyped_terms, occurs_in_any}
+use Rattle.fp_conclude.specs.Outcomes.{gives, with_part, unknown_name, ill_typed_at, not_equation, not_redex, not_bool, differ, free_in_hyps}
 use Rattle.fp_conclude.specs.Parts.{function_parts, equation, redex}
 use Rattle.fp_conclude.specs.Checks.{typed_over, fitting, unknown_in_pairs, unknown_in_type_pairs}
 use Rattle.fp_conclude.specs.Rules.{refl_of, joined, trans_of, applied_at, mk_comb_of, abstracted, lam_of, beta_of, assume_of, replaced_by, eq_mp_of, inst_of, inst_ty_of}
@@ -19,8 +19,7 @@ use Rattle.fp_conclude.proofs.Checked.{well_typed, are_terms, are_types}
 use Rattle.fp_conclude.proofs.Outcomes.{unless_gives, followed_gives, part_gives, same_given, gives_where, gives_unless}
 use Rattle.fp_kernel.specs.Definitions.{Def}
 use Rattle.fp_kernel.specs.Start.{signature_of}
-use Rattle.fp_kernel.specs.Derivability.{IsFormula}
-use Rattle.fp_kernel.specs.Derivability.{Derives, refl, trans, mk_comb, lam, beta, assume, eq_mp, antisym, inst, inst_ty}
+use Rattle.fp_kernel.specs.Derivability.{Derives, refl, trans, mk_comb, lam, beta, assume, eq_mp, inst, inst_ty}
 use Rattle.fp_kernel.proofs.Formulas.{formula_of, sides}
 
 abbrev Three : Type 0

@@ -12,6 +12,10 @@ pub record Theorem : Type 0 where
   pub hyps : List Tm
   pub concl : Tm
 
+-- over a list of definitions, without hypotheses and promises
+abbrev pub without_premises : List Def → Tm → Theorem
+without_premises defs p = record { defs = defs; promises = []; hyps = []; concl = p }
+
 abbrev pub IsTheorem : Theorem → Type 0
 IsTheorem th = Derives th.defs th.promises th.hyps th.concl
 

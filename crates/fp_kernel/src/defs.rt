@@ -1,4 +1,4 @@
-ghost use Rattle.std.specs.Prelude.{◌≡◌, [], ◌∷◌, ◌++◌, length, IfOk, IfErr, OnOk, OnErr, MatchResult};
+ghost use Rattle.std.specs.Prelude.{◌≡◌, [], ◌∷◌, ◌++◌, length, IfOk, IfErr, IfSome, OnOk, OnErr, MatchResult};
 ghost use Rattle.fp_term.specs.Types.{Typ};
 ghost use Rattle.fp_term.specs.Variables.{first_free_of, hidden_of};
 ghost use Rattle.fp_term.specs.Terms.{Tm, constant};
@@ -7,12 +7,13 @@ ghost use Rattle.fp_conclude.specs.Logic.{equal};
 ghost use Rattle.fp_kernel.specs.Start.{signature_of};
 ghost use Rattle.fp_conclude.specs.Hypotheses.{IsSet};
 ghost use Rattle.fp_kernel.specs.Derivability.{Derives};
-ghost use Rattle.fp_kernel.specs.Theorems.{ArePromises};
+ghost use Rattle.fp_kernel.specs.Theorems.{ArePromises, without_premises};
 ghost use Rattle.fp_kernel.specs.Conservative.{IsConservative, IsNewConstant};
 ghost use Rattle.fp_kernel.specs.Defining.{defining, defining_theorem, made, unless, not_closed, hidden_type, FaultIs, Defines, MadeUnlessMemory};
 
 use crate::definition::Definitions;
 use crate::fault::{self, DefFault};
+use crate::kept::Kept;
 use crate::start::start_signature;
 use crate::thm::Thm;
 use fp_conclude::equation;
@@ -26,6 +27,7 @@ pub struct Defs {
     list: Definitions,
     level: u32,
     signature: Signature,
+    kept: Kept,
 }
 
 impl Model for Defs {
@@ -83,6 +85,7 @@ impl Defs {
             list: Definitions::start(alloc)?,
             level: 0,
             signature: start_signature(alloc)?,
+            kept: Kept::new(alloc)?,
         })
     }
 
@@ -91,10 +94,12 @@ impl Defs {
         ensures { IfOk result (λ d. d ≡ self.now) }
     {
         let signature = self.signature.copy(alloc)?;
+        let kept = self.kept.share()?;
         Ok(Defs {
             list: self.list.copy()?,
             level: self.level,
             signature,
+            kept,
         })
     }
 
@@ -111,6 +116,20 @@ impl Defs {
         ensures conservative { IsConservative self.now }
     {
         self.level
+    }
+
+    /// The theorem that is kept in the place, where there is one and it states just that over no definitions, without
+    /// hypotheses and promises.
+    pub fn kept(&self, place: usize, statement: &Term) -> Option<&Thm>
+        ensures { IfSome result (λ th. th.now ≡ without_premises [] statement.now) }
+    {
+        self.kept.find(place, statement)
+    }
+
+    /// Keeps the theorem in the place, of which there are 64, where none is kept there yet. Nothing that the rules and
+    /// `define` answer depends on it.
+    pub fn keep(&self, alloc: Global, place: usize, theorem: Thm) -> Result<(), AllocError> {
+        self.kept.put(alloc, place, theorem)
     }
 
     /// The theorem of these parts over this list.

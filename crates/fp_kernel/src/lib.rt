@@ -6,6 +6,7 @@ mod connectives;
 mod definition;
 mod defs;
 mod fault;
+mod kept;
 mod promises;
 mod rules;
 mod start;

@@ -1,0 +1,66 @@
+ghost use Rattle.std.specs.Prelude.{◌≡◌, ◌<◌, [], length, IfOk, IfSome, IsTrue};
+ghost use Rattle.fp_kernel.specs.Theorems.{without_premises};
+
+use crate::thm::Thm;
+use fp_term::{Term, same};
+use once_cell::race::OnceBox;
+use std::alloc::{AllocError, Global};
+use std::sync::Arc;
+
+// How many theorems can be kept.
+const ROOM: usize = 64;
+
+/// Places for theorems that are derived once and used again. What is put into one stays there.
+#[derive(Drop)]
+pub struct Kept {
+    places: Arc<Vec<OnceBox<Thm>>>,
+}
+
+// Does it state just that, over no definitions, without hypotheses and promises?
+fn states(theorem: &Thm, statement: &Term) -> bool
+    ensures { IsTrue result → theorem.now ≡ without_premises [] statement.now }
+{
+    theorem.level() == 0
+        && theorem.hyps().is_empty()
+        && theorem.promises().is_empty()
+        && same(theorem.concl(), statement)
+}
+
+impl Kept {
+    pub fn new(alloc: Global) -> Result<Kept, AllocError> {
+        let mut places = Vec::new(alloc);
+        for _ in 0..ROOM {
+            places.push(OnceBox::new(alloc))?;
+        }
+        Ok(Kept {
+            places: Arc::new(alloc, places)?,
+        })
+    }
+
+    /// The same places.
+    pub fn share(&self) -> Result<Kept, AllocError> {
+        Ok(Kept {
+            places: self.places.clone()?,
+        })
+    }
+
+    /// The theorem in the place, where it states just that over no definitions.
+    pub fn find(&self, place: usize, statement: &Term) -> Option<&Thm>
+        ensures { IfSome result (λ th. th.now ≡ without_premises [] statement.now) }
+    {
+        let theorem = self.places.get(place)?.get()?;
+        if states(theorem, statement) {
+            Some(theorem)
+        } else {
+            None
+        }
+    }
+
+    /// Puts the theorem into the place, where it is empty.
+    pub fn put(&self, alloc: Global, place: usize, theorem: Thm) -> Result<(), AllocError> {
+        if let Some(cell) = self.places.get(place) {
+            let _ = cell.set(Box::new(alloc, theorem)?);
+        }
+        Ok(())
+    }
+}
