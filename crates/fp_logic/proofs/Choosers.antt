@@ -2,13 +2,15 @@
 use Rattle.std.proofs.Common.{◌≡◌, Bool, true, false, List, refl, ap, ◌∙◌}
 use Rattle.fp_term.specs.Terms.{Tm, app, opened, replaced}
 use Rattle.fp_term.specs.Signatures.{IsWellTyped}
-use Rattle.fp_conclude.specs.Logic.{truth_type, predicate_type, binary_type, equal}
+use Rattle.fp_conclude.specs.Logic.{truth_type, predicate_type, binary_type, equal, true_constant}
 use Rattle.fp_kernel.specs.Definitions.{Def, whole}
 use Rattle.fp_kernel.specs.Start.{signature_of}
 use Rattle.fp_kernel.specs.Theorems.{Theorem}
 use Rattle.fp_logic.specs.Shapes.{function_in, argument_in, body_in}
-use Rattle.fp_logic.specs.Steps.{plain, choice_schema, by_one, CanCombine, CanUnfold, unfolded}
+use Rattle.fp_logic.specs.Steps.{plain, choice_schema, by_one, CanCombine, CanConvert, CanUnfold, unfolded}
 use Rattle.fp_logic.specs.Schemas.{p_variable, q_variable, in_place, itself, both_true, chooser, chosen, chosen_from, choice}
+use Rattle.fp_logic.specs.Lemmas.{statement_of}
+use Rattle.fp_logic.specs.declared.lemmas.Lemma.TheVariants.{Choice}
 use Rattle.fp_logic.proofs.Concrete.{at_start}
 
 pub chooser_typed : (defs : List Def) (b : Bool) → IsWellTyped (signature_of defs) (chooser b) (binary_type truth_type truth_type)
@@ -52,3 +54,19 @@ choices_ask defs a b l r = (whole, whole, refl, refl)
 
 pub choice_from : (defs : List Def) (schema : Theorem) (b : Bool) (l r : Tm) → schema ≡ choice_schema defs b → plain defs (replaced (in_place l r) schema.concl) ≡ plain defs (equal truth_type (choice b l r) (chosen b l r))
 choice_from defs schema b l r e = ap (λ (x : Theorem). plain defs (replaced (in_place l r) x.concl)) e ∙ ap (plain defs) (choice_at b l r)
+
+-- that the choices from two formulas and from `T` twice are equal says the chosen one
+abbrev Choosing : Bool → Tm → Tm → Tm
+Choosing b l r = equal truth_type (equal truth_type (choice b l r) (choice b true_constant true_constant)) (chosen b l r)
+
+pub choice_lemma_at : (b : Bool) (l r : Tm) → replaced (in_place l r) (statement_of (Choice b)) ≡ Choosing b l r
+choice_lemma_at true l r = refl
+choice_lemma_at false l r = refl
+
+pub choice_asks : (defs : List Def) (a : Theorem) (b : Bool) (l r : Tm) →
+    CanConvert defs (plain defs (Choosing b l r)) (by_one defs a (equal truth_type (choice b l r) (choice b true_constant true_constant)))
+choice_asks defs a b l r = (refl, whole, refl)
+
+pub chosen_typed : (defs : List Def) (b : Bool) → IsWellTyped (signature_of defs) (chosen b p_variable q_variable) truth_type
+chosen_typed defs true = at_start defs p_variable truth_type refl refl
+chosen_typed defs false = at_start defs q_variable truth_type refl refl

@@ -1,5 +1,5 @@
 -- The steps from two formulas to their conjunction.
-use Rattle.std.proofs.Common.{◌≡◌, ◌∙◌, List, refl, sym, ap, subst}
+use Rattle.std.proofs.Common.{◌≡◌, ◌∙◌, List, [], refl, sym, ap, subst}
 use Rattle.std.specs.Prelude.{codes}
 use Rattle.fp_term.specs.Terms.{Tm}
 use Rattle.fp_conclude.specs.Logic.{truth_type, binary_type, equal, true_constant, connective, conjunction}
@@ -9,9 +9,9 @@ use Rattle.fp_kernel.specs.Definitions.{Def, whole}
 use Rattle.fp_kernel.specs.Theorems.{Theorem, ArePromises}
 use Rattle.fp_kernel.proofs.Promised.{promises_alone}
 use Rattle.fp_logic.specs.Shapes.{right}
-use Rattle.fp_logic.specs.Schemas.{held, both_true}
-use Rattle.fp_logic.specs.Steps.{plain, by_one, by_both, CanCombine, combined, CanCarry}
-use Rattle.fp_logic.proofs.Turning.{alone_after}
+use Rattle.fp_logic.specs.Schemas.{held}
+use Rattle.fp_logic.specs.Steps.{plain, by_one, by_both, CanCombine, combined, CanReplace}
+use Rattle.fp_logic.proofs.Begun.{from_nothing}
 
 abbrev own_and : Tm
 own_and = let t = connective (codes "and") in equal (binary_type truth_type truth_type) t t
@@ -52,21 +52,11 @@ twice_gives defs a b e f h k =
     ap (λ (x : Theorem). Twice defs x b) e ∙ ap (Twice defs (by_one defs a (held (right a.concl)))) f ∙ twice_is defs a b (right a.concl) (right b.concl) h k
 
 -- what follows from `(T /\ T) = p`
-abbrev Meaning : Tm
-Meaning = equal truth_type (conjunction true_constant true_constant) (both_true true_constant true_constant)
-
 abbrev Truths : Tm
 Truths = conjunction true_constant true_constant
 
-from_at : (defs : List Def) (a : Theorem) (p : Tm) →
-    CanCarry defs (plain defs Meaning) (by_one defs a (equal truth_type Truths p)) (plain defs (equal truth_type Truths Truths)) (plain defs (both_true true_constant true_constant))
-from_at defs a p = (whole, whole, refl, refl, refl, refl)
+from_at : (defs : List Def) (a : Theorem) (p : Tm) → CanReplace defs (by_one defs a (equal truth_type Truths p)) (plain [] Truths)
+from_at defs a p = (whole, from_nothing defs, refl)
 
-pub from_truths_asks : (defs : List Def) (a : Theorem) → Is defs a (equal truth_type Truths (right a.concl)) →
-    CanCarry defs (plain defs Meaning) a (plain defs (equal truth_type Truths Truths)) (plain defs (both_true true_constant true_constant))
-from_truths_asks defs a e =
-    subst (λ (x : Theorem). CanCarry defs (plain defs Meaning) x (plain defs (equal truth_type Truths Truths)) (plain defs (both_true true_constant true_constant))) (sym e)
-    (from_at defs a (right a.concl))
-
-pub from_truths_gives : (defs : List Def) (a : Theorem) → IsSet a.hyps → ArePromises a.promises → by_both defs (plain defs Meaning) a (right a.concl) ≡ by_one defs a (right a.concl)
-from_truths_gives defs a h k = alone_after defs Meaning (right a.concl) a h k
+pub from_truths_asks : (defs : List Def) (a : Theorem) → Is defs a (equal truth_type Truths (right a.concl)) → CanReplace defs a (plain [] Truths)
+from_truths_asks defs a e = subst (λ (x : Theorem). CanReplace defs x (plain [] Truths)) (sym e) (from_at defs a (right a.concl))

@@ -120,11 +120,11 @@ assumed_gives defs t h = ap (λ o. stands defs [] (t ∷ []) o) (assume_gives (s
 known_types : (defs : List Def) (s : Typ) (t : Tm) → IsWellTyped (signature_of defs) t s → unknown_in_type (signature_of defs) s ≡ None
 known_types defs s t h = known_type (signature_of defs) s (typed_over (signature_of defs) ((from_start defs).types function 2 refl) t s h.over h.typed)
 
-abbrev Instance : List Def → Theorem → Tm → Tm → Type 0
+abbrev pub Instance : List Def → Theorem → Tm → Tm → Type 0
 Instance defs th l r =
     from_one defs th (all_replaced (in_place l r) th.hyps) (inst_of (signature_of defs) (in_place l r) th.concl) ≡ gives (plain defs (replaced (in_place l r) th.concl))
 
-instance_of : (defs : List Def) (p : Tm) (l r : Tm) → IsFormula (signature_of defs) l → IsFormula (signature_of defs) r → Instance defs (plain defs p) l r
+pub instance_of : (defs : List Def) (p : Tm) (l r : Tm) → IsFormula (signature_of defs) l → IsFormula (signature_of defs) r → Instance defs (plain defs p) l r
 instance_of defs p l r h k = ap (λ o. stands defs [] [] o) (inst_gives (signature_of defs) (in_place l r) p (known_types defs) (h, (k, tt)))
 
 pub instance_gives : (defs : List Def) (th : Theorem) (l r : Tm) → th ≡ plain defs th.concl → IsFormula (signature_of defs) l → IsFormula (signature_of defs) r → Instance defs th l r

@@ -1,12 +1,9 @@
 pub mod Given
 pub mod Concrete
+pub mod Begun
 pub mod Turning
 pub mod Applied
 pub mod Shaped
 pub mod Choosers
 pub mod Conjoined
 pub mod Discharged
-pub mod False
-pub mod Matched
-pub mod Ways
-pub mod Joined

@@ -1,10 +1,7 @@
 -- Formulas by their connective, and their parts.
 use Rattle.std.specs.Prelude.{ℕ, if◌then◌else◌, List, Option, Some, None, codes}
 use Rattle.fp_term.specs.Terms.{Tm, app, term_eq}
-use Rattle.fp_conclude.specs.Logic.{connective, negation_constant}
-
-abbrev pub disjunction : Tm → Tm → Tm
-disjunction p q = app (app (connective (codes "or")) p) q
+use Rattle.fp_conclude.specs.Logic.{connective}
 
 -- the two formulas that the connective of that name joins
 abbrev pub parts_by : List ℕ → Tm → Option (Tm × Tm)
@@ -16,10 +13,3 @@ conjunction_parts t = parts_by (codes "and") t
 
 abbrev pub implication_parts : Tm → Option (Tm × Tm)
 implication_parts t = parts_by (codes "imp") t
-
-abbrev pub disjunction_parts : Tm → Option (Tm × Tm)
-disjunction_parts t = parts_by (codes "or") t
-
-abbrev pub negated : Tm → Option Tm
-negated (app c p) = if term_eq c negation_constant then Some p else None
-negated _ = None

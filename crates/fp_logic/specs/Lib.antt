@@ -3,3 +3,4 @@ pub mod Derived
 pub mod Shapes
 pub mod Steps
 pub mod Schemas
+pub mod Lemmas

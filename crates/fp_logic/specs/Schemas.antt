@@ -2,7 +2,7 @@
 use Rattle.std.specs.Prelude.{ℕ, Bool, if◌then◌else◌, List, [], ◌∷◌, codes}
 use Rattle.fp_term.specs.Types.{Typ}
 use Rattle.fp_term.specs.Terms.{Tm, bound, free, app, abs}
-use Rattle.fp_conclude.specs.Logic.{truth_type, predicate_type, binary_type, quantifier_type, equal, true_constant, conjunction, implication, quantifier}
+use Rattle.fp_conclude.specs.Logic.{truth_type, predicate_type, binary_type, equal, true_constant, conjunction}
 
 abbrev pub p_variable : Tm
 p_variable = free (codes "p") truth_type
@@ -56,22 +56,3 @@ implied l r = equal truth_type (conjunction l r) l
 -- `c p = (%y. x)`, for a chooser `c`
 abbrev pub chosen_from : Bool → Tm
 chosen_from first = equal (predicate_type truth_type) (app (chooser first) p_variable) (abs truth_type (if first then p_variable else bound 0))
-
--- `P = (%x. T)`, for a predicate on formulas
-abbrev pub always_true : Tm → Tm
-always_true p = equal (predicate_type truth_type) p (abs truth_type true_constant)
-
--- `all = (%P. P = (%x. T))`, for formulas
-abbrev pub universal_is : Tm
-universal_is = equal (quantifier_type truth_type) (quantifier (codes "all") truth_type) (abs (predicate_type truth_type) (always_true (bound 0)))
-
-abbrev pub r_variable : Tm
-r_variable = free (codes "r") truth_type
-
--- `(p --> r) --> (q --> r) --> r`
-abbrev pub each_way : Tm → Tm → Tm → Tm
-each_way p q r = implication (implication p r) (implication (implication q r) r)
-
--- `%r. (p --> r) --> (q --> r) --> r`
-abbrev pub all_ways : Tm → Tm → Tm
-all_ways p q = abs truth_type (each_way p q (bound 0))

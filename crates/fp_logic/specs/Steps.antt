@@ -3,7 +3,7 @@ use Rattle.std.specs.Prelude.{◌≡◌, ℕ, Bool, List, [], ◌∷◌, Result,
 use Rattle.fp_term.specs.Types.{Typ}
 use Rattle.fp_term.specs.Terms.{Tm, constant, app, opened}
 use Rattle.fp_term.specs.Names.{equality}
-use Rattle.fp_conclude.specs.Logic.{truth_type, equality_type, equal, true_constant, connective, negation}
+use Rattle.fp_conclude.specs.Logic.{truth_type, equality_type, equal, true_constant, connective}
 use Rattle.fp_conclude.specs.Hypotheses.{union, without}
 use Rattle.fp_conclude.specs.declared.fault.RuleFault.{RuleFault}
 use Rattle.fp_conclude.specs.declared.fault.RuleFault.TheVariants.{NoMemory}
@@ -11,7 +11,7 @@ use Rattle.fp_kernel.specs.Definitions.{Def, Within}
 use Rattle.fp_kernel.specs.Start.{signature_of}
 use Rattle.fp_kernel.specs.Derivability.{IsFormula}
 use Rattle.fp_kernel.specs.Theorems.{Theorem, promise_union}
-use Rattle.fp_logic.specs.Schemas.{p_variable, q_variable, itself, choice, chosen}
+use Rattle.fp_logic.specs.Schemas.{p_variable, q_variable, held, itself, choice, chosen}
 use Rattle.fp_logic.specs.Shapes.{side_type, target, left, right, body_in, IsEquation, IsEquationOn, IsEquationFrom, IsAbstraction}
 
 -- a theorem without hypotheses and promises, and with those of one and of two others
@@ -110,6 +110,10 @@ IsImplication defs a l r = IsJoined (codes "imp") defs a l r
 abbrev pub choice_schema : List Def → Bool → Theorem
 choice_schema defs first = plain defs (equal truth_type (choice first p_variable q_variable) (chosen first p_variable q_variable))
 
+-- that a formula is `T` exactly where it holds, for a variable
+abbrev pub held_schema : List Def → Theorem
+held_schema defs = plain defs (equal truth_type p_variable (held p_variable))
+
 -- with the hypotheses of a theorem but one
 abbrev pub without_one : List Def → Tm → Theorem → Tm → Theorem
 without_one defs t a p = record { defs = defs; promises = a.promises; hyps = without t a.hyps; concl = p }
@@ -117,10 +121,3 @@ without_one defs t a p = record { defs = defs; promises = a.promises; hyps = wit
 -- an equation of formulas without hypotheses, and its right side
 abbrev pub CanFold : List Def → Theorem → Theorem → Type 0
 CanFold defs a b = (a ≡ plain defs (equal truth_type (left a.concl) (right a.concl))) × Within b.defs defs × (b.concl ≡ right a.concl)
-
--- a theorem of a negation
-abbrev pub IsNegation : List Def → Theorem → Tm → Type 0
-IsNegation defs a p = Within a.defs defs × (a.concl ≡ negation p) × IsFormula (signature_of defs) p
-
-abbrev pub IsDisjunction : List Def → Theorem → Tm → Tm → Type 0
-IsDisjunction defs a l r = IsJoined (codes "or") defs a l r

@@ -1,17 +1,19 @@
 //! `p` and `q` from `p /\ q`.
 ghost use Rattle.std.specs.Prelude.{◌≡◌, IfOk};
 ghost use Rattle.fp_term.specs.Terms.{app};
-ghost use Rattle.fp_conclude.specs.Logic.{truth_type, equal, conjunction, true_constant};
+ghost use Rattle.fp_conclude.specs.Logic.{truth_type, binary_type, equal, conjunction, true_constant};
 ghost use Rattle.fp_kernel.specs.Derivability.{IsFormula};
 ghost use Rattle.fp_kernel.specs.Start.{signature_of};
 ghost use Rattle.fp_logic.specs.Shapes.{left, right, IsEquationFrom};
 ghost use Rattle.fp_logic.specs.Steps.{plain, by_one, by_both, choice_schema, IsConjunction};
-ghost use Rattle.fp_logic.specs.Schemas.{p_variable, q_variable, applying, chooser, chosen, chosen_from, choice};
+ghost use Rattle.fp_logic.specs.Schemas.{p_variable, q_variable, applying, both_true, chooser, chosen, chosen_from, choice};
 
 use crate::equations::unfold;
 use crate::holding::{convert, establish, p_variable, q_variable};
 use crate::instances::instance;
+use crate::lemmas::{Lemma, lemma_at};
 use crate::shapes::left;
+use crate::statements::applying_variables;
 use crate::steps::{chain, combine, own, reduced};
 use crate::unfolding::{conjunction_meaning, own_q};
 use fp_conclude::{abstraction, apply, apply_both, binary_truth, true_constant, truth_type};
@@ -19,8 +21,8 @@ use fp_kernel::{Defs, Thm};
 use fp_term::Term;
 use std::alloc::{AllocError, Global};
 
-// `%x y. x` or `%x y. y`
-fn chooser(alloc: Global, first: bool) -> Result<Term, AllocError>
+/// `%x y. x` or `%x y. y`
+pub fn chooser(alloc: Global, first: bool) -> Result<Term, AllocError>
     ensures { IfOk result (λ t. t ≡ chooser first) }
 {
     let number = if first { 1 } else { 0 };
@@ -38,15 +40,6 @@ pub fn applying(alloc: Global, left: &Term, right: &Term) -> Result<Term, AllocE
     let body = apply_both(alloc, &function, left, right)?;
     let ty = binary_truth(alloc)?;
     abstraction(alloc, &ty, &body)
-}
-
-// `%f. f p q`
-fn applying_variables(alloc: Global) -> Result<Term, AllocError>
-    ensures { IfOk result (λ t. t ≡ applying p_variable q_variable) }
-{
-    let left = p_variable(alloc)?;
-    let right = q_variable(alloc)?;
-    applying(alloc, &left, &right)
 }
 
 // `(%f. f p q) c = c p q`, for a chooser `c`.
@@ -79,14 +72,45 @@ fn chosen_twice(alloc: Global, defs: &Defs, first: bool, by: &Term) -> Result<Th
     unfold(alloc, defs, &once, &second)
 }
 
-// `(%f. f p q) c = x`, for the chooser `c`, with `p` or `q` for `x`.
-fn choice_schema(alloc: Global, defs: &Defs, first: bool) -> Result<Thm, AllocError>
+// `(%f. f p q) c = x`, for that chooser `c`, with `p` or `q` for `x`.
+fn choice_schema_by(alloc: Global, defs: &Defs, first: bool, by: &Term) -> Result<Thm, AllocError>
+    requires { by.now ≡ chooser first }
+    ensures { IfOk result (λ th. th ≡ choice_schema defs.now first) }
+{
+    let passed = passed(alloc, defs, first, by)?;
+    let twice = chosen_twice(alloc, defs, first, by)?;
+    chain(alloc, defs, &passed, &twice)
+}
+
+/// `(%f. f p q) c = x`, for the chooser `c`, with `p` or `q` for `x`.
+pub fn choice_schema(alloc: Global, defs: &Defs, first: bool) -> Result<Thm, AllocError>
     ensures { IfOk result (λ th. th ≡ choice_schema defs.now first) }
 {
     let by = chooser(alloc, first)?;
-    let passed = passed(alloc, defs, first, &by)?;
-    let twice = chosen_twice(alloc, defs, first, &by)?;
-    chain(alloc, defs, &passed, &twice)
+    choice_schema_by(alloc, defs, first, &by)
+}
+
+// `c = c`, for a chooser `c`.
+fn own_chooser(alloc: Global, defs: &Defs, first: bool) -> Result<Thm, AllocError>
+    ensures { IfOk result (λ th. th ≡ plain defs.now (equal (binary_type truth_type truth_type) (chooser first) (chooser first))) }
+{
+    let by = chooser(alloc, first)?;
+    own(alloc, defs, &by)
+}
+
+// `(%f. f l r) = (%f. f T T)` from `l /\ r`.
+fn both_hold(
+    alloc: Global,
+    defs: &Defs,
+    a: &Thm,
+    left: &Term,
+    right: &Term,
+) -> Result<Thm, AllocError>
+    requires { IsConjunction defs.now a.now left.now right.now }
+    ensures { IfOk result (λ th. th ≡ by_one defs.now a.now (both_true left.now right.now)) }
+{
+    let meaning = conjunction_meaning(alloc, defs, left, right)?;
+    convert(alloc, defs, &meaning, a)
 }
 
 // `(%f. f l r) c = (%f. f T T) c` from `l /\ r`, for the chooser `c`.
@@ -101,11 +125,9 @@ fn choices(
     requires { IsConjunction defs.now a.now left.now right.now }
     ensures { IfOk result (λ th. th ≡ by_one defs.now a.now (equal truth_type (choice first left.now right.now) (choice first true_constant true_constant))) }
 {
-    let meaning = conjunction_meaning(alloc, defs, left, right)?;
-    let said = convert(alloc, defs, &meaning, a)?;
-    let by = chooser(alloc, first)?;
-    let own = own(alloc, defs, &by)?;
-    combine(alloc, defs, &said, &own)
+    let both = both_hold(alloc, defs, a, left, right)?;
+    let own = own_chooser(alloc, defs, first)?;
+    combine(alloc, defs, &both, &own)
 }
 
 // `(%f. f l r) c = x`, for the chooser `c`, by what is derived for variables.
@@ -126,32 +148,18 @@ fn choice_of(
     instance(alloc, defs, schema, left, right)
 }
 
-// `(%f. f T T) c = T`, by what is derived for variables.
-fn truth_choice(alloc: Global, defs: &Defs, schema: &Thm, first: bool) -> Result<Thm, AllocError>
+/// `(%f. f T T) c = T`, by what is derived for variables.
+pub fn truth_choice(
+    alloc: Global,
+    defs: &Defs,
+    schema: &Thm,
+    first: bool,
+) -> Result<Thm, AllocError>
     requires { schema.now ≡ choice_schema defs.now first }
     ensures { IfOk result (λ th. th ≡ plain defs.now (equal truth_type (choice first true_constant true_constant) true_constant)) }
 {
     let truth = true_constant(alloc)?;
     choice_of(alloc, defs, schema, first, &truth, &truth)
-}
-
-// `(%f. f l r) c = T` from `l /\ r`.
-fn against_truth(
-    alloc: Global,
-    defs: &Defs,
-    schema: &Thm,
-    first: bool,
-    a: &Thm,
-    left: &Term,
-    right: &Term,
-) -> Result<Thm, AllocError>
-    requires schema { schema.now ≡ choice_schema defs.now first }
-    requires conjunction { IsConjunction defs.now a.now left.now right.now }
-    ensures { IfOk result (λ th. th ≡ by_one defs.now a.now (equal truth_type (choice first left.now right.now) true_constant)) }
-{
-    let choices = choices(alloc, defs, first, a, left, right)?;
-    let truth = truth_choice(alloc, defs, schema, first)?;
-    chain(alloc, defs, &choices, &truth)
 }
 
 /// `u` from `s = T` and `s = u`, over one list.
@@ -171,6 +179,21 @@ pub fn established(
     establish(alloc, defs, against, equation, &own)
 }
 
+// `((%f. f l r) c = (%f. f T T) c) = x`, for the chooser `c`, with `l` or `r` for `x`.
+fn choosing(
+    alloc: Global,
+    defs: &Defs,
+    first: bool,
+    left: &Term,
+    right: &Term,
+) -> Result<Thm, AllocError>
+    requires left { IsFormula (signature_of defs.now) left.now }
+    requires right { IsFormula (signature_of defs.now) right.now }
+    ensures { IfOk result (λ th. th ≡ plain defs.now (equal truth_type (equal truth_type (choice first left.now right.now) (choice first true_constant true_constant)) (chosen first left.now right.now))) }
+{
+    lemma_at(alloc, defs, Lemma::Choice(first), left, right)
+}
+
 /// `l` from `l /\ r`, where the first is asked for, else `r`.
 pub fn conjunct(
     alloc: Global,
@@ -183,8 +206,7 @@ pub fn conjunct(
     requires { IsConjunction defs.now a.now left.now right.now }
     ensures { IfOk result (λ th. th ≡ by_one defs.now a.now (chosen first left.now right.now)) }
 {
-    let schema = choice_schema(alloc, defs, first)?;
-    let against = against_truth(alloc, defs, &schema, first, a, left, right)?;
-    let choice = choice_of(alloc, defs, &schema, first, left, right)?;
-    established(alloc, defs, &against, &choice)
+    let choices = choices(alloc, defs, first, a, left, right)?;
+    let choosing = choosing(alloc, defs, first, left, right)?;
+    convert(alloc, defs, &choosing, &choices)
 }

@@ -1,21 +1,20 @@
-//! Forms of conjunctions. Primitive steps: `conj` 52, `conj1` and `conj2` 32.
+//! Forms of conjunctions. Primitive steps: `conj` 8, `conj1` and `conj2` 6.
 ghost use Rattle.std.specs.Prelude.{◌≡◌, codes, IfOk};
 ghost use Rattle.fp_conclude.specs.Logic.{truth_type, binary_type, equal, true_constant, connective, conjunction};
 ghost use Rattle.fp_conclude.specs.Outcomes.{Answers, gives};
 ghost use Rattle.fp_kernel.specs.Definitions.{Within};
 ghost use Rattle.fp_kernel.specs.Theorems.{from_one, from_both};
 ghost use Rattle.fp_logic.specs.Derived.{conj1_of, conj2_of};
-ghost use Rattle.fp_logic.specs.Schemas.{held, both_true};
+ghost use Rattle.fp_logic.specs.Schemas.{held};
 ghost use Rattle.fp_logic.specs.Shapes.{right};
 ghost use Rattle.fp_logic.specs.Steps.{plain, by_one, by_both};
 
-use crate::choosing::{applying, conjunct};
-use crate::holding::{carry, hold};
+use crate::choosing::conjunct;
+use crate::holding::hold;
+use crate::lemmas::{Lemma, recalled};
 use crate::parts::conjunction_parts;
-use crate::shapes::left;
-use crate::steps::{combine, own};
-use crate::unfolding::conjunction_meaning;
-use fp_conclude::{RuleFault, connective, true_constant};
+use crate::steps::{combine, own, replace};
+use fp_conclude::{RuleFault, connective};
 use fp_kernel::{Defs, Thm};
 use std::alloc::{AllocError, Global};
 
@@ -52,34 +51,13 @@ fn conjoined_truths(alloc: Global, defs: &Defs, a: &Thm, b: &Thm) -> Result<Thm,
     conjoined_sides(alloc, defs, &first, &second)
 }
 
-// `(T /\ T) = ((%f. f T T) = (%f. f T T))`
-fn truths_meaning(alloc: Global, defs: &Defs) -> Result<Thm, AllocError>
-    ensures { IfOk result (λ th. th ≡ plain defs.now (equal truth_type (conjunction true_constant true_constant) (both_true true_constant true_constant))) }
-{
-    let truth = true_constant(alloc)?;
-    conjunction_meaning(alloc, defs, &truth, &truth)
-}
-
-// `(%f. f T T) = (%f. f T T)`
-fn own_application(alloc: Global, defs: &Defs) -> Result<Thm, AllocError>
-    ensures { IfOk result (λ th. th ≡ plain defs.now (both_true true_constant true_constant)) }
-{
-    let truth = true_constant(alloc)?;
-    let term = applying(alloc, &truth, &truth)?;
-    own(alloc, defs, &term)
-}
-
 // What follows from `(T /\ T) = p`.
 fn conclude_from(alloc: Global, defs: &Defs, th: &Thm) -> Result<Thm, AllocError>
     requires { th.now ≡ by_one defs.now th.now (equal truth_type (conjunction true_constant true_constant) (right th.now.concl)) }
     ensures { IfOk result (λ p. p ≡ by_one defs.now th.now (right th.now.concl)) }
 {
-    let _hyps = th.hyps();
-    let _promises = th.promises();
-    let meaning = truths_meaning(alloc, defs)?;
-    let own = own(alloc, defs, left(meaning.concl()))?;
-    let third = own_application(alloc, defs)?;
-    carry(alloc, defs, &meaning, th, &own, &third)
+    let truths = recalled(alloc, defs, Lemma::Truths)?;
+    replace(alloc, defs, th, &truths)
 }
 
 /// `p /\ q` from `p` and `q`, for formulas.

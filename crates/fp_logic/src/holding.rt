@@ -8,7 +8,7 @@ ghost use Rattle.fp_logic.specs.Steps.{plain, from_itself, by_one, by_both, own_
 ghost use Rattle.fp_logic.specs.Schemas.{p_variable, q_variable, identity, true_meaning, held};
 
 use crate::equations::{equality_of, swap, turn};
-use crate::instances::instance;
+use crate::lemmas::{Lemma, lemma_at};
 use crate::shapes;
 use crate::steps::{assumed, chain, definition, equate, own, replace};
 use fp_conclude::{abstraction, equation, true_constant, truth_type};
@@ -126,35 +126,41 @@ pub fn q_variable(alloc: Global) -> Result<Term, AllocError>
 }
 
 // `T = p` from `p`.
-fn held_from(alloc: Global, defs: &Defs, truth: &Thm, term: &Term) -> Result<Thm, AllocError>
-    requires truth { truth.now ≡ plain defs.now true_constant }
-    requires term { term.now ≡ p_variable }
+fn held_from(alloc: Global, defs: &Defs) -> Result<Thm, AllocError>
     ensures { IfOk result (λ th. th ≡ record (from_itself defs.now p_variable) { concl = held p_variable }) }
 {
-    let itself = assumed(alloc, defs, term)?;
-    equate(alloc, defs, truth, &itself)
+    let term = p_variable(alloc)?;
+    let itself = assumed(alloc, defs, &term)?;
+    let truth = truth_itself(alloc, defs)?;
+    equate(alloc, defs, &truth, &itself)
+}
+
+// `T = p`
+fn held_variable(alloc: Global) -> Result<Term, AllocError>
+    ensures { IfOk result (λ t. t ≡ held p_variable) }
+{
+    let ty = truth_type(alloc)?;
+    let truth = true_constant(alloc)?;
+    let term = p_variable(alloc)?;
+    equation(alloc, &ty, &truth, &term)
 }
 
 // `p` from `T = p`.
-fn from_held(alloc: Global, defs: &Defs, truth: &Thm, term: &Term) -> Result<Thm, AllocError>
-    requires truth { truth.now ≡ plain defs.now true_constant }
-    requires term { term.now ≡ p_variable }
+fn from_held(alloc: Global, defs: &Defs) -> Result<Thm, AllocError>
     ensures { IfOk result (λ th. th ≡ record (from_itself defs.now (held p_variable)) { concl = p_variable }) }
 {
-    let ty = truth_type(alloc)?;
-    let held = equation(alloc, &ty, truth.concl(), term)?;
+    let held = held_variable(alloc)?;
     let itself = assumed(alloc, defs, &held)?;
-    replace(alloc, defs, &itself, truth)
+    let truth = truth_itself(alloc, defs)?;
+    replace(alloc, defs, &itself, &truth)
 }
 
-// `p = (T = p)`
-fn held_schema(alloc: Global, defs: &Defs) -> Result<Thm, AllocError>
+/// `p = (T = p)`
+pub fn held_schema(alloc: Global, defs: &Defs) -> Result<Thm, AllocError>
     ensures { IfOk result (λ th. th ≡ plain defs.now (equal truth_type p_variable (held p_variable))) }
 {
-    let truth = truth_itself(alloc, defs)?;
-    let term = p_variable(alloc)?;
-    let first = from_held(alloc, defs, &truth, &term)?;
-    let second = held_from(alloc, defs, &truth, &term)?;
+    let first = from_held(alloc, defs)?;
+    let second = held_from(alloc, defs)?;
     equate(alloc, defs, &first, &second)
 }
 
@@ -163,8 +169,7 @@ pub fn hold(alloc: Global, defs: &Defs, th: &Thm) -> Result<Thm, AllocError>
     requires { Within th.now.defs defs.now }
     ensures { IfOk result (λ h. h ≡ by_one defs.now th.now (held th.now.concl)) }
 {
-    let schema = held_schema(alloc, defs)?;
-    let equation = instance(alloc, defs, &schema, th.concl(), th.concl())?;
+    let equation = lemma_at(alloc, defs, Lemma::Held, th.concl(), th.concl())?;
     convert(alloc, defs, &equation, th)
 }
 

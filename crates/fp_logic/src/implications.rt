@@ -1,4 +1,4 @@
-//! Forms of implications. Primitive steps: `mp` 49, `undisch` 50, `disch` 103.
+//! Forms of implications. Primitive steps: `mp` 9, `undisch` 10, `disch` 19.
 ghost use Rattle.std.specs.Prelude.{◌≡◌, IfOk};
 ghost use Rattle.fp_conclude.specs.Logic.{truth_type, equal, conjunction, implication};
 ghost use Rattle.fp_conclude.specs.Hypotheses.{without};
@@ -12,14 +12,14 @@ ghost use Rattle.fp_logic.specs.Schemas.{implied};
 ghost use Rattle.fp_logic.specs.Steps.{by_one, by_both, from_itself, without_one, IsImplication};
 
 use crate::choosing::conjunct;
+use crate::conclude;
 use crate::conjunctions::conjoined;
-use crate::equations::swap;
-use crate::holding::{convert, fold};
+use crate::holding::convert;
+use crate::lemmas::{Lemma, lemma_at};
 use crate::parts::implication_parts;
 use crate::steps::{assumed, equate, replace};
 use crate::unfolding::implication_meaning;
-use crate::{conclude, shapes};
-use fp_conclude::{RuleFault, conjunction, truth_type};
+use fp_conclude::{RuleFault, conjunction};
 use fp_kernel::{Defs, Thm};
 use fp_term::Term;
 use std::alloc::{AllocError, Global};
@@ -50,9 +50,8 @@ fn conjunction_from(
     requires { IsImplication defs.now a.now left.now right.now }
     ensures { IfOk result (λ th. th ≡ by_one defs.now a.now (equal truth_type left.now (conjunction left.now right.now))) }
 {
-    let implied = implied_from(alloc, defs, a, left, right)?;
-    let ty = truth_type(alloc)?;
-    swap(alloc, defs, &implied, &ty, shapes::left(implied.concl()))
+    let meaning = lemma_at(alloc, defs, Lemma::Turned, left, right)?;
+    convert(alloc, defs, &meaning, a)
 }
 
 /// `r` from `l --> r` and `l`, for formulas.
@@ -152,8 +151,8 @@ pub fn discharged(alloc: Global, defs: &Defs, term: &Term, a: &Thm) -> Result<Th
     ensures { IfOk result (λ th. th ≡ without_one defs.now term.now a.now (implication term.now a.now.concl)) }
 {
     let implied = implied_without(alloc, defs, term, a)?;
-    let meaning = implication_meaning(alloc, defs, term, a.concl())?;
-    fold(alloc, defs, &meaning, &implied)
+    let meaning = lemma_at(alloc, defs, Lemma::Folded, term, a.concl())?;
+    convert(alloc, defs, &meaning, &implied)
 }
 
 /// `t --> p` from `p`, without the hypothesis `t`.

@@ -1,29 +1,25 @@
-//! The derived forms of the connectives, each made by the rules alone.
+//! The derived forms of the connectives, each made by the rules alone. The public modules are steps of derivations,
+//! each with a condition under which nothing but memory is wanting; crates that derive further forms stand on them.
 #![tactic(auto)]
 
-mod choosing;
+pub mod choosing;
 mod conclude;
 mod conjunctions;
-mod disjunctions;
+mod derivations;
 mod equality;
-mod equations;
-mod falsity;
-mod holding;
-mod implications;
-mod instances;
-mod joining;
-mod negation;
-mod parts;
-mod shapes;
-mod steps;
-mod truths;
-mod unfolding;
+pub mod equations;
+pub mod holding;
+pub mod implications;
+pub mod instances;
+pub mod lemmas;
+pub mod parts;
+pub mod shapes;
+mod statements;
+pub mod steps;
+pub mod truths;
+pub mod unfolding;
 
 pub use conjunctions::{conj, conj1, conj2};
-pub use disjunctions::cases;
 pub use equality::{ap, ap_arg, sym};
-pub use falsity::false_elim;
 pub use implications::{disch, mp, undisch};
-pub use joining::{disj1, disj2};
-pub use negation::{eqf, not_elim, not_intro};
 pub use truths::{eqt, eqt_elim, truth};

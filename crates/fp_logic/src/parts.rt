@@ -1,14 +1,14 @@
 //! The parts of formulas by their connective.
 ghost use Rattle.std.specs.Prelude.{◌≡◌, Some, None, IfOk, IsTrue, MatchOption};
 ghost use Rattle.fp_term.specs.Names.{is_name};
-ghost use Rattle.fp_logic.specs.Forms.{parts_by, conjunction_parts, implication_parts, disjunction_parts, negated};
+ghost use Rattle.fp_logic.specs.Forms.{parts_by, conjunction_parts, implication_parts};
 
-use fp_conclude::{connective, negation_constant};
+use fp_conclude::connective;
 use fp_term::{Node, Term, same};
 use std::alloc::{AllocError, Global};
 
-// The two formulas that the connective of that name joins.
-fn parts_by<'a>(
+/// The two formulas that the connective of that name joins.
+pub fn parts_by<'a>(
     alloc: Global,
     name: &[u8],
     term: &'a Term,
@@ -48,27 +48,4 @@ pub fn implication_parts(alloc: Global, term: &Term) -> Result<Option<(&Term, &T
     ensures { IfOk result (λ o. MatchOption o (implication_parts term.now ≡ None) (λ p. implication_parts term.now ≡ Some (p.0.now, p.1.now))) }
 {
     parts_by(alloc, b"imp", term)
-}
-
-/// The parts of `p \/ q`.
-#[tactic(auto, unfolding(fp_term::specs::Names::is_name))]
-pub fn disjunction_parts(alloc: Global, term: &Term) -> Result<Option<(&Term, &Term)>, AllocError>
-    ensures { IfOk result (λ o. MatchOption o (disjunction_parts term.now ≡ None) (λ p. disjunction_parts term.now ≡ Some (p.0.now, p.1.now))) }
-{
-    parts_by(alloc, b"or", term)
-}
-
-/// The formula that is negated.
-pub fn negated(alloc: Global, term: &Term) -> Result<Option<&Term>, AllocError>
-    ensures { IfOk result (λ o. MatchOption o (negated term.now ≡ None) (λ p. negated term.now ≡ Some p.now)) }
-{
-    let Node::App { fun, arg } = term.node() else {
-        return Ok(None);
-    };
-    let constant = negation_constant(alloc)?;
-    if same(fun, &constant) {
-        Ok(Some(arg))
-    } else {
-        Ok(None)
-    }
 }

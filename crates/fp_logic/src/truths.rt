@@ -1,4 +1,4 @@
-//! Forms of `T`. Primitive steps: `truth` 9, `eqt_elim` 9, `eqt` 21.
+//! Forms of `T`. Primitive steps: `truth` 1, `eqt` and `eqt_elim` 2.
 ghost use Rattle.std.specs.Prelude.{◌≡◌, [], IfOk};
 ghost use Rattle.fp_conclude.specs.Logic.{truth_type, equal, true_constant};
 ghost use Rattle.fp_conclude.specs.Outcomes.{Answers, gives};
@@ -8,11 +8,9 @@ ghost use Rattle.fp_logic.specs.Derived.{eqt_elim_of};
 ghost use Rattle.fp_logic.specs.Steps.{by_one};
 
 use crate::conclude;
-use crate::equations::swap;
-use crate::holding::{establish, hold, truth_itself};
-use crate::shapes::left;
-use crate::steps::own;
-use fp_conclude::{RuleFault, truth_type};
+use crate::holding::convert;
+use crate::lemmas::{Lemma, lemma_at};
+use fp_conclude::{RuleFault, true_constant};
 use fp_kernel::{Defs, Thm};
 use fp_term::Term;
 use std::alloc::{AllocError, Global};
@@ -21,7 +19,8 @@ use std::alloc::{AllocError, Global};
 pub fn truth(alloc: Global, defs: &Defs) -> Result<Thm, RuleFault>
     ensures { Answers result (stands defs.now [] [] (gives true_constant)) }
 {
-    Ok(truth_itself(alloc, defs)?)
+    let term = true_constant(alloc)?;
+    Ok(lemma_at(alloc, defs, Lemma::Truth, &term, &term)?)
 }
 
 /// `p = T` from `p`, for formulas.
@@ -29,9 +28,8 @@ pub fn true_equation(alloc: Global, defs: &Defs, a: &Thm) -> Result<Thm, AllocEr
     requires { Within a.now.defs defs.now }
     ensures { IfOk result (λ th. th ≡ by_one defs.now a.now (equal truth_type a.now.concl true_constant)) }
 {
-    let held = hold(alloc, defs, a)?;
-    let ty = truth_type(alloc)?;
-    swap(alloc, defs, &held, &ty, left(held.concl()))
+    let equation = lemma_at(alloc, defs, Lemma::Truthful, a.concl(), a.concl())?;
+    convert(alloc, defs, &equation, a)
 }
 
 /// `p = T` from `p`.
@@ -42,15 +40,15 @@ pub fn eqt(alloc: Global, defs: &Defs, a: &Thm) -> Result<Thm, RuleFault>
     Ok(true_equation(alloc, defs, a)?)
 }
 
-// `p` from `p = T`.
-fn untrue(alloc: Global, defs: &Defs, a: &Thm, concl: &Term) -> Result<Thm, AllocError>
+/// `p` from `p = T`, for that formula.
+pub fn untrue(alloc: Global, defs: &Defs, a: &Thm, concl: &Term) -> Result<Thm, AllocError>
     requires within { Within a.now.defs defs.now }
     requires shape { a.now.concl ≡ equal truth_type concl.now true_constant }
     ensures { IfOk result (λ th. th ≡ by_one defs.now a.now concl.now) }
 {
     let _concl = a.concl();
-    let own = own(alloc, defs, concl)?;
-    establish(alloc, defs, a, &own, &own)
+    let equation = lemma_at(alloc, defs, Lemma::Untrue, concl, concl)?;
+    convert(alloc, defs, &equation, a)
 }
 
 /// `p` from `p = T`.

@@ -3,12 +3,12 @@ ghost use Rattle.std.specs.Prelude.{◌≡◌, IfOk};
 ghost use Rattle.fp_conclude.specs.Logic.{truth_type, equal, conjunction, implication};
 ghost use Rattle.fp_kernel.specs.Derivability.{IsFormula};
 ghost use Rattle.fp_kernel.specs.Start.{signature_of};
-ghost use Rattle.fp_logic.specs.Steps.{plain, unfolded_twice, CanUnfoldTwice};
+ghost use Rattle.fp_logic.specs.Steps.{plain, unfolded, unfolded_twice, CanUnfoldTwice};
 ghost use Rattle.fp_logic.specs.Schemas.{p_variable, q_variable, itself, both_true, implied};
 
 use crate::equations::unfold;
 use crate::holding::{p_variable, q_variable};
-use crate::instances::instance;
+use crate::lemmas::{Lemma, lemma_at};
 use crate::steps::{definition, own};
 use fp_kernel::{Defs, Thm};
 use fp_term::Term;
@@ -30,15 +30,23 @@ pub fn own_q(alloc: Global, defs: &Defs) -> Result<Thm, AllocError>
     own(alloc, defs, &term)
 }
 
+// `f p = (%q. b)`, from `f = (%p q. b)`.
+fn unfold_once(alloc: Global, defs: &Defs, th: &Thm) -> Result<Thm, AllocError>
+    requires { CanUnfoldTwice defs.now th.now }
+    ensures { IfOk result (λ u. u ≡ plain defs.now (unfolded th.now.concl (itself p_variable))) }
+{
+    let own = own_p(alloc, defs)?;
+    unfold(alloc, defs, th, &own)
+}
+
 /// `f p q = b`, from `f = (%p q. b)`.
 pub fn unfold_twice(alloc: Global, defs: &Defs, th: &Thm) -> Result<Thm, AllocError>
     requires { CanUnfoldTwice defs.now th.now }
     ensures { IfOk result (λ u. u ≡ plain defs.now (unfolded_twice th.now.concl)) }
 {
-    let first = own_p(alloc, defs)?;
-    let once = unfold(alloc, defs, th, &first)?;
-    let second = own_q(alloc, defs)?;
-    unfold(alloc, defs, &once, &second)
+    let once = unfold_once(alloc, defs, th)?;
+    let own = own_q(alloc, defs)?;
+    unfold(alloc, defs, &once, &own)
 }
 
 /// `(p /\ q) = ((%f. f p q) = (%f. f T T))`
@@ -49,8 +57,8 @@ pub fn conjunction_schema(alloc: Global, defs: &Defs) -> Result<Thm, AllocError>
     unfold_twice(alloc, defs, &meaning)
 }
 
-// `(p --> q) = ((p /\ q) = p)`
-fn implication_schema(alloc: Global, defs: &Defs) -> Result<Thm, AllocError>
+/// `(p --> q) = ((p /\ q) = p)`
+pub fn implication_schema(alloc: Global, defs: &Defs) -> Result<Thm, AllocError>
     ensures { IfOk result (λ th. th ≡ plain defs.now (equal truth_type (implication p_variable q_variable) (implied p_variable q_variable))) }
 {
     let meaning = definition(alloc, defs, 3)?;
@@ -68,8 +76,7 @@ pub fn conjunction_meaning(
     requires second { IsFormula (signature_of defs.now) right.now }
     ensures { IfOk result (λ th. th ≡ plain defs.now (equal truth_type (conjunction left.now right.now) (both_true left.now right.now))) }
 {
-    let schema = conjunction_schema(alloc, defs)?;
-    instance(alloc, defs, &schema, left, right)
+    lemma_at(alloc, defs, Lemma::Conjoined, left, right)
 }
 
 /// What an implication says.
@@ -83,6 +90,5 @@ pub fn implication_meaning(
     requires second { IsFormula (signature_of defs.now) right.now }
     ensures { IfOk result (λ th. th ≡ plain defs.now (equal truth_type (implication left.now right.now) (implied left.now right.now))) }
 {
-    let schema = implication_schema(alloc, defs)?;
-    instance(alloc, defs, &schema, left, right)
+    lemma_at(alloc, defs, Lemma::Implied, left, right)
 }

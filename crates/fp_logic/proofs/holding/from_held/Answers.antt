@@ -6,10 +6,10 @@ use Rattle.fp_logic.proofs.Concrete.{at_start}
 use Rattle.fp_logic.proofs.holding.from_held.Goals as goal
 
 pub assumed-requires : goal.assumed-requires
-assumed-requires c = rw (c.in_ok-held.ensures, c.in_ok-ty.ensures, c.concl.ensures.value, c.requires.truth, c.requires.term) (at_start c.args.defs.now (held p_variable) truth_type refl refl)
+assumed-requires c = rw c.in_ok-held.ensures (at_start c.args.defs.now (held p_variable) truth_type refl refl)
 
 pub replace-requires : goal.replace-requires
-replace-requires c = rw (c.in_ok-itself.ensures, c.in_ok-held.ensures, c.in_ok-ty.ensures, c.concl.ensures.value, c.requires.truth, c.requires.term) (whole, whole, refl)
+replace-requires c = rw (c.in_ok-itself.ensures, c.in_ok-held.ensures, c.in_ok-truth.ensures) (whole, whole, refl)
 
 pub returns : goal.returns
-returns c = rw (c.in_ok-itself.ensures, c.in_ok-held.ensures, c.in_ok-ty.ensures, c.concl.ensures.value, c.requires.truth, c.requires.term) at c.replace.ensures
+returns c = rw (c.in_ok-itself.ensures, c.in_ok-held.ensures, c.in_ok-truth.ensures) at c.replace.ensures

@@ -1,15 +1,14 @@
 use Rattle.std.proofs.Common.{refl}
-use Rattle.fp_kernel.specs.Definitions.{whole}
 use Rattle.fp_logic.proofs.implications.conjunction_from.Goals as goal
 
-pub implied_from-requires : goal.implied_from-requires
-implied_from-requires c = c.requires
+pub lemma_at-requires-clause-first : goal.lemma_at-requires-clause-first
+lemma_at-requires-clause-first c = c.requires.2
 
-pub swap-requires-clause-within : goal.swap-requires-clause-within
-swap-requires-clause-within c = rw c.in_ok-implied.ensures whole
+pub lemma_at-requires-clause-second : goal.lemma_at-requires-clause-second
+lemma_at-requires-clause-second c = c.requires.3
 
-pub swap-requires-clause-equation : goal.swap-requires-clause-equation
-swap-requires-clause-equation c = rw (c.left.ensures, c.concl.ensures.value, c.in_ok-ty.ensures, c.in_ok-implied.ensures) refl
+pub convert-requires : goal.convert-requires
+convert-requires c = rw (c.in_ok-meaning.ensures, c.requires.1) (refl, c.requires.0, refl)
 
 pub returns : goal.returns
-returns c = rw (c.left.ensures, c.concl.ensures.value, c.in_ok-ty.ensures, c.in_ok-implied.ensures) at c.swap.ensures
+returns c = rw c.in_ok-meaning.ensures at c.convert.ensures

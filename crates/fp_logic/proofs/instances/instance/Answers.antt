@@ -1,23 +1,10 @@
-use Rattle.std.proofs.Common.{◌≡◌, List, ap, subst, sym}
-use Rattle.fp_term.specs.Terms.{replaced}
-use Rattle.fp_conclude.specs.Hypotheses.{all_replaced}
-use Rattle.fp_conclude.specs.Rules.{inst_of}
+use Rattle.std.proofs.Common.{List, refl, sym, ap, subst}
 use Rattle.fp_kernel.specs.Definitions.{Def, Within, whole}
-use Rattle.fp_kernel.specs.Start.{signature_of}
-use Rattle.fp_kernel.specs.Theorems.{Theorem, from_one}
-use Rattle.fp_logic.specs.Schemas.{in_place}
-use Rattle.fp_logic.specs.Steps.{plain}
-use Rattle.fp_logic.proofs.Given.{no_refusal, given_is, instance_gives}
+use Rattle.fp_kernel.specs.Theorems.{Theorem}
 use Rattle.fp_logic.proofs.instances.instance.Goals as goal
 
-within : (defs : List Def) (th : Theorem) → th ≡ plain defs th.concl → Within th.defs defs
-within defs th e = subst (λ (x : List Def). Within x defs) (sym (ap (λ (y : Theorem). y.defs) e)) whole
+pub instance_of-requires-clause-whole : goal.instance_of-requires-clause-whole
+instance_of-requires-clause-whole c = rw c.requires.whole refl
 
-pub inst-requires : goal.inst-requires
-inst-requires c = within c.args.defs.now c.args.th.now c.requires.whole
-
-pub given-requires : goal.given-requires
-given-requires c = no_refusal c.inst.result (from_one c.args.defs.now c.args.th.now (all_replaced (in_place c.args.left.now c.args.right.now) c.args.th.now.hyps) (inst_of (signature_of c.args.defs.now) (in_place c.args.left.now c.args.right.now) c.args.th.now.concl)) (plain c.args.defs.now (replaced (in_place c.args.left.now c.args.right.now) c.args.th.now.concl)) (rw (c.in_ok-first.ensures, c.in_ok-pair.ensures) at c.inst.ensures) (instance_gives c.args.defs.now c.args.th.now c.args.left.now c.args.right.now c.requires.whole c.requires.first c.requires.second)
-
-pub returns : goal.returns
-returns c = given_is c.inst.result c.given.result (from_one c.args.defs.now c.args.th.now (all_replaced (in_place c.args.left.now c.args.right.now) c.args.th.now.hyps) (inst_of (signature_of c.args.defs.now) (in_place c.args.left.now c.args.right.now) c.args.th.now.concl)) (plain c.args.defs.now (replaced (in_place c.args.left.now c.args.right.now) c.args.th.now.concl)) (rw (c.in_ok-first.ensures, c.in_ok-pair.ensures) at c.inst.ensures) (instance_gives c.args.defs.now c.args.th.now c.args.left.now c.args.right.now c.requires.whole c.requires.first c.requires.second) c.given.ensures
+pub instance_of-requires-clause-within : goal.instance_of-requires-clause-within
+instance_of-requires-clause-within c = subst (λ (x : List Def). Within x c.args.defs.now) (sym (ap (λ (y : Theorem). y.defs) c.requires.whole)) whole

@@ -1,12 +1,15 @@
 use Rattle.std.proofs.Common.{refl}
-use Rattle.fp_kernel.specs.Definitions.{whole}
+use Rattle.fp_logic.proofs.Turning.{lifted}
 use Rattle.fp_logic.proofs.truths.true_equation.Goals as goal
 
-pub swap-requires-clause-within : goal.swap-requires-clause-within
-swap-requires-clause-within c = rw c.in_ok-held.ensures whole
+pub lemma_at-requires-clause-first : goal.lemma_at-requires-clause-first
+lemma_at-requires-clause-first c = rw c.concl.ensures.value (lifted c.args.defs.now c.args.a.now c.requires c.concl.ensures.derived)
 
-pub swap-requires-clause-equation : goal.swap-requires-clause-equation
-swap-requires-clause-equation c = rw (c.left.ensures, c.concl.ensures.value, c.in_ok-ty.ensures, c.in_ok-held.ensures) refl
+pub lemma_at-requires-clause-second : goal.lemma_at-requires-clause-second
+lemma_at-requires-clause-second c = rw c.concl-2.ensures.value (lifted c.args.defs.now c.args.a.now c.requires c.concl.ensures.derived)
+
+pub convert-requires : goal.convert-requires
+convert-requires c = rw (c.in_ok-equation.ensures, c.concl.ensures.value) (refl, c.requires, refl)
 
 pub returns : goal.returns
-returns c = rw (c.left.ensures, c.concl.ensures.value, c.in_ok-ty.ensures, c.in_ok-held.ensures) at c.swap.ensures
+returns c = rw (c.in_ok-equation.ensures, c.concl.ensures.value) at c.convert.ensures

@@ -1,8 +1,4 @@
-use Rattle.std.proofs.Common.{refl}
 use Rattle.fp_logic.proofs.unfolding.implication_meaning.Goals as goal
 
-pub instance-requires-clause-whole : goal.instance-requires-clause-whole
-instance-requires-clause-whole c = rw c.in_ok-schema.ensures refl
-
 pub returns : goal.returns
-returns c = rw c.in_ok-schema.ensures at c.instance.ensures
+returns c = c.lemma_at.ensures

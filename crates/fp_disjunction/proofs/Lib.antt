@@ -1,0 +1,5 @@
+pub mod Negated
+pub mod False
+pub mod Matched
+pub mod Ways
+pub mod Joined

@@ -1,0 +1,4 @@
+pub mod Forms
+pub mod Derived
+pub mod Steps
+pub mod Schemas

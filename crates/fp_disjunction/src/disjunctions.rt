@@ -1,0 +1,165 @@
+//! What a disjunction says, and forms of disjunctions. Primitive steps: `cases` 88.
+ghost use Rattle.std.specs.Prelude.{◌≡◌, codes, IfOk};
+ghost use Rattle.fp_term.specs.Terms.{app};
+ghost use Rattle.fp_conclude.specs.Logic.{truth_type, equal, true_constant, quantifier, implication};
+ghost use Rattle.fp_conclude.specs.Outcomes.{Answers};
+ghost use Rattle.fp_kernel.specs.Definitions.{Within};
+ghost use Rattle.fp_kernel.specs.Derivability.{IsFormula};
+ghost use Rattle.fp_kernel.specs.Start.{signature_of};
+ghost use Rattle.fp_disjunction.specs.Forms.{disjunction};
+ghost use Rattle.fp_disjunction.specs.Derived.{either_way, cases_from};
+ghost use Rattle.fp_logic.specs.Schemas.{p_variable, q_variable};
+ghost use Rattle.fp_disjunction.specs.Schemas.{each_way, all_ways, always_true};
+ghost use Rattle.fp_logic.specs.Shapes.{left, right};
+ghost use Rattle.fp_logic.specs.Steps.{plain, by_one, by_both, without_one};
+ghost use Rattle.fp_disjunction.specs.Steps.{IsDisjunction};
+
+use crate::falsity::{always_at, universal};
+use crate::parts::disjunction_parts;
+use fp_conclude::{RuleFault, differ};
+use fp_kernel::{Defs, Thm};
+use fp_logic::choosing::established;
+use fp_logic::holding::convert;
+use fp_logic::implications::{discharged, modus};
+use fp_logic::instances::instance;
+use fp_logic::shapes::{self, argument_in};
+use fp_logic::steps::{chain, definition, reduced};
+use fp_logic::unfolding::unfold_twice;
+use fp_term::{Term, same};
+use std::alloc::{AllocError, Global};
+
+// `(p \/ q) = (!r. (p --> r) --> (q --> r) --> r)`, for the variables.
+fn quantified_schema(alloc: Global, defs: &Defs) -> Result<Thm, AllocError>
+    ensures { IfOk result (λ th. th ≡ plain defs.now (equal truth_type (disjunction p_variable q_variable) (app (quantifier (codes "all") truth_type) (all_ways p_variable q_variable)))) }
+{
+    let meaning = definition(alloc, defs, 6)?;
+    unfold_twice(alloc, defs, &meaning)
+}
+
+// `(p \/ q) = ((%r. (p --> r) --> (q --> r) --> r) = (%x. T))`, for the variables.
+fn disjunction_schema(alloc: Global, defs: &Defs) -> Result<Thm, AllocError>
+    ensures { IfOk result (λ th. th ≡ plain defs.now (equal truth_type (disjunction p_variable q_variable) (always_true (all_ways p_variable q_variable)))) }
+{
+    let quantified = quantified_schema(alloc, defs)?;
+    let predicate = argument_in(shapes::right(quantified.concl()));
+    let universal = universal(alloc, defs, predicate)?;
+    chain(alloc, defs, &quantified, &universal)
+}
+
+/// What a disjunction says.
+pub fn disjunction_meaning(
+    alloc: Global,
+    defs: &Defs,
+    left: &Term,
+    right: &Term,
+) -> Result<Thm, AllocError>
+    requires first { IsFormula (signature_of defs.now) left.now }
+    requires second { IsFormula (signature_of defs.now) right.now }
+    ensures { IfOk result (λ th. th ≡ plain defs.now (equal truth_type (disjunction left.now right.now) (always_true (all_ways left.now right.now)))) }
+{
+    let schema = disjunction_schema(alloc, defs)?;
+    instance(alloc, defs, &schema, left, right)
+}
+
+// `(%r. (l --> r) --> (m --> r) --> r) t = T` from `l \/ m`.
+fn ways_at(
+    alloc: Global,
+    defs: &Defs,
+    a: &Thm,
+    left: &Term,
+    right: &Term,
+    term: &Term,
+) -> Result<Thm, AllocError>
+    requires disjunction { IsDisjunction defs.now a.now left.now right.now }
+    requires formula { IsFormula (signature_of defs.now) term.now }
+    ensures { IfOk result (λ th. th ≡ by_one defs.now a.now (equal truth_type (app (all_ways left.now right.now) term.now) true_constant)) }
+{
+    let meaning = disjunction_meaning(alloc, defs, left, right)?;
+    let always = convert(alloc, defs, &meaning, a)?;
+    always_at(alloc, defs, &always, term)
+}
+
+// `(l --> t) --> (m --> t) --> t` from `l \/ m`.
+fn ways(
+    alloc: Global,
+    defs: &Defs,
+    a: &Thm,
+    left: &Term,
+    right: &Term,
+    term: &Term,
+) -> Result<Thm, AllocError>
+    requires disjunction { IsDisjunction defs.now a.now left.now right.now }
+    requires formula { IsFormula (signature_of defs.now) term.now }
+    ensures { IfOk result (λ th. th ≡ by_one defs.now a.now (each_way left.now right.now term.now)) }
+{
+    let against = ways_at(alloc, defs, a, left, right, term)?;
+    let equation = reduced(alloc, defs, shapes::left(against.concl()))?;
+    established(alloc, defs, &against, &equation)
+}
+
+/// `r` from `p --> r` and `p`, by the terms of the theorems.
+pub fn passed_on(alloc: Global, defs: &Defs, a: &Thm, b: &Thm) -> Result<Thm, AllocError>
+    requires first { a.now.defs ≡ defs.now }
+    requires second { b.now.defs ≡ defs.now }
+    requires shape { a.now.concl ≡ implication b.now.concl (right a.now.concl) }
+    ensures { IfOk result (λ th. th ≡ by_both defs.now a.now b.now (right a.now.concl)) }
+{
+    modus(alloc, defs, a, b, b.concl(), shapes::right(a.concl()))
+}
+
+// `(q --> r) --> r` from `p \/ q` and `r`, without `p` among the hypotheses of the second.
+fn first_passed(
+    alloc: Global,
+    defs: &Defs,
+    a: &Thm,
+    b: &Thm,
+    left: &Term,
+    right: &Term,
+) -> Result<Thm, AllocError>
+    requires disjunction { IsDisjunction defs.now a.now left.now right.now }
+    requires within { Within b.now.defs defs.now }
+    ensures { IfOk result (λ th. th ≡ by_both defs.now a.now (without_one defs.now left.now b.now b.now.concl) (implication (implication right.now b.now.concl) b.now.concl)) }
+{
+    let ways = ways(alloc, defs, a, left, right, b.concl())?;
+    let first = discharged(alloc, defs, left, b)?;
+    passed_on(alloc, defs, &ways, &first)
+}
+
+// `r` from `p \/ q`, `r` without `p` and `r` without `q`.
+fn either(
+    alloc: Global,
+    defs: &Defs,
+    a: &Thm,
+    b: &Thm,
+    c: &Thm,
+    left: &Term,
+    right: &Term,
+) -> Result<Thm, AllocError>
+    requires disjunction { IsDisjunction defs.now a.now left.now right.now }
+    requires second_within { Within b.now.defs defs.now }
+    requires third_within { Within c.now.defs defs.now }
+    requires same { b.now.concl ≡ c.now.concl }
+    ensures { IfOk result (λ th. th ≡ either_way defs.now a.now b.now c.now (left.now, right.now)) }
+{
+    let once = first_passed(alloc, defs, a, b, left, right)?;
+    let second = discharged(alloc, defs, right, c)?;
+    passed_on(alloc, defs, &once, &second)
+}
+
+/// `r` from `p \/ q`, from `r` and from `r`, without `p` among the hypotheses of the second theorem and without `q`
+/// among those of the third.
+pub fn cases(alloc: Global, defs: &Defs, a: &Thm, b: &Thm, c: &Thm) -> Result<Thm, RuleFault>
+    requires first_within { Within a.now.defs defs.now }
+    requires second_within { Within b.now.defs defs.now }
+    requires third_within { Within c.now.defs defs.now }
+    ensures { Answers result (cases_from defs.now a.now b.now c.now) }
+{
+    let parts = disjunction_parts(alloc, a.concl())?;
+    let Some((left, right)) = parts else {
+        return Err(RuleFault::Shape);
+    };
+    if !same(b.concl(), c.concl()) {
+        return Err(differ(b.concl(), c.concl()));
+    }
+    Ok(either(alloc, defs, a, b, c, left, right)?)
+}

@@ -1,9 +1,0 @@
-use Rattle.std.proofs.Common.{refl}
-use Rattle.fp_kernel.specs.Definitions.{whole}
-use Rattle.fp_logic.proofs.choosing.choice_schema.Goals as goal
-
-pub chain-requires : goal.chain-requires
-chain-requires c = rw (c.in_ok-passed.ensures, c.in_ok-twice.ensures) (whole, whole, refl, refl)
-
-pub returns : goal.returns
-returns c = rw (c.in_ok-passed.ensures, c.in_ok-twice.ensures) at c.chain.ensures

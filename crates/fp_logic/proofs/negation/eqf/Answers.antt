@@ -1,5 +1,0 @@
-use Rattle.fp_logic.proofs.Shaped.{negation_of}
-use Rattle.fp_logic.proofs.negation.eqf.Goals as goal
-
-pub falsified-requires : goal.falsified-requires
-falsified-requires c = negation_of c.args.defs.now c.args.a.now c.in-Some.term.now c.requires c.concl.ensures.derived (rw (c.in-Some.is, c.concl.ensures.value) at c.in_ok-part.ensures)
