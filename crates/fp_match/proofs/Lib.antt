@@ -3,3 +3,5 @@ pub mod Exact
 pub mod TypePairs
 pub mod TermPairs
 pub mod Matching
+pub mod Unique
+pub mod Own

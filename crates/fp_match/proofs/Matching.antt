@@ -20,10 +20,10 @@ is_number-decides n (bound m) = let d = Decides-eqb n m in ((λ h. ap bound (d.0
 is_number-decides n _ = ((λ h. cc), (λ e. cc))
 
 -- the instance of the pattern by the types and terms
-abbrev instance_by : Inst → Tm → Tm
+abbrev pub instance_by : Inst → Tm → Tm
 instance_by all pattern = replaced all.terms (retyped_term all.types pattern)
 
-matched_exact : (all : Inst) → AreTyped all.terms → (p t : Tm) (i : Inst) → ExactInst all i (instance_by all p ≡ t) (matched_term i p t)
+pub matched_exact : (all : Inst) → AreTyped all.terms → (p t : Tm) (i : Inst) → ExactInst all i (instance_by all p ≡ t) (matched_term i p t)
 matched_exact all typed (bound n) t i =
     exact_known (InstAgrees all) InstStands i (bound n ≡ t) (bound n ≡ t) (is_number n t) (is_number-decides n t) (λ _ e. e) (λ _ e. e)
 matched_exact all typed (free x s) t i = variable_exact all i x s t (type_under [] t) refl typed
@@ -45,7 +45,7 @@ matched_exact all typed (abs s x) (abs u y) i =
     (retyped_exact all i s u) (λ known. matched_exact all typed x y known))
 matched_exact all typed (abs s x) _ i = exact_none (InstAgrees all) InstStands i _ (λ _ e. cc)
 
-found_stands : (p t : Tm) (new : Inst) → matched_term nothing p t ≡ Some new → InstStands new
+pub found_stands : (p t : Tm) (new : Inst) → matched_term nothing p t ≡ Some new → InstStands new
 found_stands p t new e = (matched_exact nothing tt p t nothing).keeps new e nothing_stands
 
 pub matched_instance : (p t : Tm) (new : Inst) → matched_term nothing p t ≡ Some new → IsInstanceBy new.types new.terms p t

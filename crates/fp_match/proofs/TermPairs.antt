@@ -13,7 +13,7 @@ use Rattle.fp_term.specs.Typing.{type_under}
 use Rattle.fp_term.proofs.Equal.{type_eq-decides, term_eq-decides}
 use Rattle.fp_term.proofs.Choices.{chosen, chosen_alike}
 use Rattle.fp_match.specs.declared.inst.Inst.{Inst}
-use Rattle.fp_match.specs.Instances.{AreTyped}
+use Rattle.fp_match.specs.Instances.{AreTyped, FirstTerms}
 use Rattle.fp_match.specs.Walk.{matched_type, retyped_by, put_term, put_variable}
 use Rattle.fp_match.proofs.Exact.{Exact, exact_none, exact_alike, exact_known, exact_then}
 use Rattle.fp_match.proofs.TypePairs.{Pairs, TypesAgree, TypesStand, ExactTypes, types_agree_none, types_stand_none, types_stand_agree, matched_type_exact}
@@ -30,13 +30,8 @@ pub TermsAgree : Triples → Triples → Type 0
 TermsAgree all [] = Unit {0}
 TermsAgree all (p ∷ ps) = (term_at all p.0 p.1 ≡ p.2) × TermsAgree all ps
 
--- each pair is the first for its variable among all
-pub FirstTerms : Triples → Triples → Type 0
-FirstTerms all [] = Unit {0}
-FirstTerms all (p ∷ ps) = (found p.0 p.1 all ≡ Some p.2) × FirstTerms all ps
-
 first_agree : (all ps : Triples) → FirstTerms all ps → TermsAgree all ps
-unfolding FirstTerms TermsAgree
+unfolding TermsAgree
 first_agree all [] h = tt
 first_agree all (p ∷ ps) h = (rw h.0 refl, first_agree all ps h.1)
 
@@ -50,7 +45,7 @@ unfolding TermsAgree
 agree_fewer all [] x u t g = (tt, g.0)
 agree_fewer all (p ∷ ps) x u t g = let r = agree_fewer all ps x u t g.1 in ((g.0, r.0), r.1)
 
-is_variable : (y : List ℕ) (s : Typ) (x : List ℕ) (u : Typ) → Decides (bytes_eq y x && type_eq s u) ((y ≡ x) × (s ≡ u))
+pub is_variable : (y : List ℕ) (s : Typ) (x : List ℕ) (u : Typ) → Decides (bytes_eq y x && type_eq s u) ((y ≡ x) × (s ≡ u))
 is_variable y s x u = Decides-and _ _ (bytes_eq-Decides y x) (type_eq-decides s u)
 
 agree_at : (all ps : Triples) (x : List ℕ) (u : Typ) (t : Tm) → TermsAgree all ps → found x u ps ≡ Some t → term_at all x u ≡ t
@@ -70,7 +65,6 @@ found_new [] x u t e = rw ((is_variable x u x u).1 (refl, refl)) refl
 found_new (p ∷ ps) x u t e = chosen_alike (bytes_eq p.0 x && type_eq p.1 u) _ _ _ _ _ _ (λ _ f. absurd (none-some p.2 (sym f))) (λ _ f. found_new ps x u t f) e
 
 first_more : (old ps : Triples) (x : List ℕ) (u : Typ) (t : Tm) → FirstTerms old ps → found x u old ≡ None → FirstTerms (old ++ (x, u, t) ∷ []) (ps ++ (x, u, t) ∷ [])
-unfolding FirstTerms
 first_more old [] x u t h e = (found_new old x u t e, tt)
 first_more old (p ∷ ps) x u t h e = (found_more old x u t p.0 p.1 p.2 h.0, first_more old ps x u t h.1 e)
 
@@ -78,7 +72,7 @@ typed_more : (ps : Triples) (x : List ℕ) (u : Typ) (t : Tm) → AreTyped ps �
 typed_more [] x u t h e = (e, tt)
 typed_more (p ∷ ps) x u t h e = (h.0, typed_more ps x u t h.1 e)
 
-typed_found : (ps : Triples) (x : List ℕ) (u : Typ) (v : Tm) → AreTyped ps → found x u ps ≡ Some v → type_under [] v ≡ Some u
+pub typed_found : (ps : Triples) (x : List ℕ) (u : Typ) (v : Tm) → AreTyped ps → found x u ps ≡ Some v → type_under [] v ≡ Some u
 typed_found [] x u v h e = absurd (none-some v e)
 typed_found (p ∷ ps) x u v h e =
     chosen (bytes_eq p.0 x && type_eq p.1 u) _ _ _ (type_under [] v ≡ Some u)
@@ -89,7 +83,7 @@ typed_or x u None h = refl
 typed_or x u (Some v) h = h v refl
 
 -- a variable's term has the variable's type
-typed_at : (all : Triples) (x : List ℕ) (u : Typ) → AreTyped all → type_under [] (term_at all x u) ≡ Some u
+pub typed_at : (all : Triples) (x : List ℕ) (u : Typ) → AreTyped all → type_under [] (term_at all x u) ≡ Some u
 typed_at all x u h = typed_or x u (found x u all) (λ v f. typed_found all x u v h f)
 
 -- each pair has what the other instance gives its variable
@@ -111,7 +105,6 @@ unfolding TermsAgree
 nothing_agrees all = record { types = types_agree_none all.types; terms = tt }
 
 pub nothing_stands : InstStands nothing
-unfolding FirstTerms
 nothing_stands = record { types = types_stand_none; terms = tt; typed = tt }
 
 pub stands_agree : (i : Inst) → InstStands i → InstAgrees i i

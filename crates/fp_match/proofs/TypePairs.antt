@@ -8,6 +8,7 @@ use Rattle.std.proofs.lemmas.Slice.Eq.{bytes_eq-Decides}
 use Rattle.fp_term.specs.Types.{Typ, Typs, variable, applied, none, more, type_eq, found_type, type_or, retyped, all_retyped, bound_to, matched, all_matched}
 use Rattle.fp_term.proofs.Equal.{type_eq-decides}
 use Rattle.fp_term.proofs.Choices.{chosen, chosen_alike}
+use Rattle.fp_match.specs.Instances.{FirstTypes}
 use Rattle.fp_match.specs.Walk.{put_types, matched_type}
 use Rattle.fp_match.proofs.Exact.{Exact, exact_some, exact_none, exact_alike, exact_if, exact_known, exact_then}
 
@@ -23,11 +24,6 @@ pub TypesAgree : Pairs → Pairs → Type 0
 TypesAgree all [] = Unit {0}
 TypesAgree all (p ∷ ps) = (type_at all p.0 ≡ p.1) × TypesAgree all ps
 
--- each pair is the first for its name among all
-FirstTypes : Pairs → Pairs → Type 0
-FirstTypes all [] = Unit {0}
-FirstTypes all (p ∷ ps) = (found_type p.0 all ≡ Some p.1) × FirstTypes all ps
-
 -- each pair is the first for its name
 pub TypesStand : Pairs → Type 0
 TypesStand ps = FirstTypes ps ps
@@ -37,13 +33,17 @@ unfolding TypesAgree
 types_agree_none all = tt
 
 pub types_stand_none : TypesStand []
-unfolding TypesStand FirstTypes
+unfolding TypesStand
 types_stand_none = tt
 
 first_agree : (all ps : Pairs) → FirstTypes all ps → TypesAgree all ps
-unfolding FirstTypes TypesAgree
+unfolding TypesAgree
 first_agree all [] h = tt
 first_agree all (p ∷ ps) h = (rw h.0 refl, first_agree all ps h.1)
+
+pub types_stand_first : (ps : Pairs) → TypesStand ps → FirstTypes ps ps
+unfolding TypesStand
+types_stand_first ps h = h
 
 pub types_stand_agree : (ps : Pairs) → TypesStand ps → TypesAgree ps ps
 unfolding TypesStand
@@ -76,7 +76,6 @@ found_new [] name u e = rw ((bytes_eq-Decides name name).1 refl) refl
 found_new (p ∷ ps) name u e = chosen_alike (bytes_eq p.0 name) _ _ _ _ _ _ (λ _ f. absurd (none-some p.1 (sym f))) (λ _ f. found_new ps name u f) e
 
 first_more : (old ps : Pairs) (name : List ℕ) (u : Typ) → FirstTypes old ps → found_type name old ≡ None → FirstTypes (old ++ (name, u) ∷ []) (ps ++ (name, u) ∷ [])
-unfolding FirstTypes
 first_more old [] name u h e = (found_new old name u e, tt)
 first_more old (p ∷ ps) name u h e = (found_more old name u p.0 p.1 h.0, first_more old ps name u h.1 e)
 

@@ -5,7 +5,7 @@ ghost use Rattle.std.specs.Prelude.{◌≡◌, [], Some, None, IfOk, MatchOption
 ghost use Rattle.std.specs.Option.{option_copied};
 ghost use Rattle.fp_term.specs.Terms.{found};
 ghost use Rattle.fp_term.specs.Typing.{type_under};
-ghost use Rattle.fp_match.specs.Instances.{IsInstanceBy, IsTermInstance};
+ghost use Rattle.fp_match.specs.Instances.{IsInstanceBy, IsTermInstance, AreOwn, AreFirst};
 ghost use Rattle.fp_match.specs.Walk.{is_number, matched_term, put_term, put_variable};
 
 mod inst;
@@ -107,10 +107,13 @@ fn match_onto(
 
 /// The types and terms that make the pattern equal to the term, where there are any. The types stand for the pattern's
 /// type variables, and then the terms for its variables at the types that these have by then. So two variables of one
-/// name stand for one term where their types become equal. No term there has a loose bound number.
+/// name stand for one term where their types become equal. No term there has a loose bound number. Each pair is of what
+/// the pattern has, and none stands behind another of its variable.
 #[tactic(auto, using(crate::proofs::Matching::unmatched))]
 pub fn match_term(alloc: Global, pattern: &Term, term: &Term) -> Result<Option<Inst>, AllocError>
     ensures exact { IfOk result (λ o. MatchOption o (IsTermInstance pattern.now term.now → ⊥) (λ i. IsInstanceBy i.types i.terms pattern.now term.now)) }
+    ensures own { IfOk result (λ o. MatchOption o (Unit {0}) (λ i. AreOwn i.types i.terms pattern.now)) }
+    ensures first { IfOk result (λ o. MatchOption o (Unit {0}) (λ i. AreFirst i.types i.terms)) }
 {
     let mut inst = Inst::new(alloc);
     if match_onto(alloc, &mut inst, pattern, term)? {
