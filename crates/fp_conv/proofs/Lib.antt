@@ -4,3 +4,10 @@ pub mod Places
 pub mod Rewriting
 pub mod Reducing
 pub mod Reduced
+pub mod Instanced
+pub mod Unused
+pub mod Unions
+pub mod Walking
+pub mod Carried
+pub mod Swapped
+pub mod Determined

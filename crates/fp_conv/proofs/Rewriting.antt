@@ -5,7 +5,6 @@ use Rattle.std.proofs.lemmas.Option.{same_Some}
 use Rattle.std.proofs.lemmas.Bool.Decides.{Decides-eqb}
 use Rattle.fp_term.specs.Types.{Typ}
 use Rattle.fp_term.specs.Terms.{Tm, free, constant, app, abs, opened, closed}
-use Rattle.fp_term.specs.Signatures.{IsType}
 use Rattle.fp_term.specs.declared.signature.Signature.{Signature}
 use Rattle.fp_term.proofs.Typed.{app_parts, abs_parts, opened_typed, opened_over}
 use Rattle.fp_term.specs.Names.{equality}
@@ -37,9 +36,6 @@ argument_typed g t f x is h =
     let k = rw is at h.well in
     let p = app_parts [] f x h.type k.typed in
     record { type = p.0; well = record { typed = p.2; over = k.over.1 } }
-
-pub body_type : (g : Signature) (t : Tm) (u : Typ) (x : Tm) → t ≡ abs u x → IsTyped g t → IsType g u
-body_type g t u x is h = (rw is at h.well.over).0
 
 pub body_typed : (g : Signature) (t o : Tm) (name : List ℕ) (u : Typ) (x : Tm) → t ≡ abs u x → o ≡ opened 0 (free name u) x → IsTyped g t → IsTyped g o
 body_typed g t o name u x is opened_is h =
@@ -164,12 +160,6 @@ pub rewritten_in_argument : {E : Type 0} {defs : List Def} {p : List (ℕ × Tm)
 rewritten_in_argument q steps place step t r f x steps_are other is e made =
     let no = unequal_by step (step == 0) refl other in
     rw (steps_are, is, no) (rw e.is at made)
-
--- at the place itself
-pub rewritten_here : {E : Type 0} (defs : List Def) (p : List (ℕ × Tm)) (h : List Tm) (q : Result Theorem E) (steps : List ℕ) (t l r : Tm) → steps ≡ [] → subterm_at steps t ≡ Some l → IfOk q (Equates defs p h l r) → IfOk q (Equates defs p h t (put_at steps r t))
-rewritten_here defs p h q steps t l r steps_are there e =
-    let same = same_Some t l (rw steps_are at there) in
-    rw (steps_are, same) e
 
 -- the rest of a place in the function of an application
 pub function_there : (steps place : List ℕ) (step : ℕ) (t f x l : Tm) → steps ≡ step ∷ place → t ≡ app f x → step ≡ 0 → subterm_at steps t ≡ Some l → subterm_at place f ≡ Some l

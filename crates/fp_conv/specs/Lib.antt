@@ -3,3 +3,4 @@ pub mod Rewriting
 pub mod Equations
 pub mod Beta
 pub mod Normal
+pub mod Outermost

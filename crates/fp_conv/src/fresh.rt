@@ -1,9 +1,11 @@
-ghost use Rattle.std.specs.Prelude.{◌≡◌, ◌||◌, false, IfOk};
+ghost use Rattle.std.specs.Prelude.{◌≡◌, ◌∷◌, ◌||◌, false, IfOk};
 ghost use Rattle.fp_term.specs.Terms.{free, opened};
+ghost use Rattle.fp_term.specs.Variables.{is_among, free_names};
 ghost use Rattle.fp_conclude.specs.Hypotheses.{occurs, occurs_in_any};
+ghost use Rattle.fp_conv.specs.Outermost.{is_used};
 
-use fp_conclude::{occurs, occurs_in_any};
-use fp_term::{Name, Term, Ty, open_with};
+use fp_conclude::{Equation, occurs, occurs_in_any};
+use fp_term::{Name, Node, Term, Ty, open_with};
 use std::alloc::{AllocError, Global};
 
 // `_` and the digits of the number, the last one first.
@@ -66,6 +68,77 @@ pub(crate) fn opening(
     ensures opened { IfOk result (λ p. p.1 ≡ opened 0 (free p.0 ty.now) body.now) }
 {
     let name = fresh(alloc, from, ty, body, other, hyps)?;
+    let opened = opened(alloc, body, &name, ty)?;
+    Ok((name, opened))
+}
+
+// Has a variable that is free in the term that name, of whatever type?
+#[tactic(auto, using(fp_term::proofs::Search::among_append))]
+fn has_name(name: &Name, term: &Term) -> bool
+    ensures { result ≡ is_among (free_names term.now) name.now }
+{
+    match term.node() {
+        Node::Bound(_) => false,
+        Node::Free { name: a, .. } => a.equals(name),
+        Node::Const { .. } => false,
+        Node::App { fun, arg } => has_name(name, fun) || has_name(name, arg),
+        Node::Abs { body, .. } => has_name(name, body),
+    }
+}
+
+fn is_used(name: &Name, terms: &[Term]) -> bool
+    ensures { result ≡ is_used name.now terms.now }
+{
+    for term in terms {
+        if has_name(name, term) {
+            return true;
+        }
+    }
+    false
+}
+
+// Has a variable that is free in the term, in the sides or in the hypotheses that name?
+fn is_used_here(name: &Name, term: &Term, sides: &Equation<'_>, hyps: &[Term]) -> bool
+    ensures { result ≡ is_used name.now (term.now ∷ sides.now.left.now ∷ sides.now.right.now ∷ hyps.now) }
+{
+    has_name(name, term)
+        || has_name(name, sides.left)
+        || has_name(name, sides.right)
+        || is_used(name, hyps)
+}
+
+/// A name that no variable has that is free in the term, in the sides or in the hypotheses.
+pub(crate) fn unused(
+    alloc: Global,
+    from: u32,
+    term: &Term,
+    sides: &Equation<'_>,
+    hyps: &[Term],
+) -> Result<Name, AllocError>
+    ensures { IfOk result (λ name. is_used name (term.now ∷ sides.now.left.now ∷ sides.now.right.now ∷ hyps.now) ≡ false) }
+{
+    for number in from..u32::MAX {
+        let name = numbered(alloc, number)?;
+        if !is_used_here(&name, term, sides, hyps) {
+            return Ok(name);
+        }
+    }
+    Err(AllocError)
+}
+
+/// Such a name, and the body opened by its variable of the type.
+pub(crate) fn unused_opening(
+    alloc: Global,
+    from: u32,
+    ty: &Ty,
+    body: &Term,
+    sides: &Equation<'_>,
+    hyps: &[Term],
+) -> Result<(Name, Term), AllocError>
+    ensures unused { IfOk result (λ p. is_used p.0 (body.now ∷ sides.now.left.now ∷ sides.now.right.now ∷ hyps.now) ≡ false) }
+    ensures opened { IfOk result (λ p. p.1 ≡ opened 0 (free p.0 ty.now) body.now) }
+{
+    let name = unused(alloc, from, body, sides, hyps)?;
     let opened = opened(alloc, body, &name, ty)?;
     Ok((name, opened))
 }

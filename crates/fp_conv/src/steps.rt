@@ -2,11 +2,13 @@ ghost use Rattle.std.specs.Prelude.{◌≡◌, [], true, IfOk, Ok};
 ghost use Rattle.std.specs.Result.{ForErr};
 ghost use Rattle.fp_term.specs.Terms.{app};
 ghost use Rattle.fp_conclude.specs.Outcomes.{gives};
-ghost use Rattle.fp_conclude.specs.Rules.{trans_of, mk_comb_of, lam_of, eq_mp_of};
+ghost use Rattle.fp_conclude.specs.Rules.{trans_of, mk_comb_of, lam_of, eq_mp_of, inst_of, inst_ty_of};
+ghost use Rattle.fp_conclude.specs.Logic.{truth_type, equal};
+ghost use Rattle.fp_conclude.specs.Hypotheses.{union, without, all_replaced, all_retyped_terms};
 ghost use Rattle.fp_conclude.specs.declared.fault.RuleFault.TheVariants.{NoMemory};
 ghost use Rattle.fp_kernel.specs.Definitions.{Within};
 ghost use Rattle.fp_kernel.specs.Start.{signature_of};
-ghost use Rattle.fp_kernel.specs.Theorems.{from_one, from_both};
+ghost use Rattle.fp_kernel.specs.Theorems.{promise_union, from_one, from_both};
 ghost use Rattle.fp_conv.specs.Beta.{is_redex};
 ghost use Rattle.fp_conv.specs.Normal.{Reduction};
 ghost use Rattle.fp_conv.specs.Equations.{IsTyped, IsGiven, Equates, right_of};
@@ -101,6 +103,53 @@ pub(crate) fn transferred(
     ensures { IfOk result (λ th. from_both defs.now first.now second.now (eq_mp_of first.now.concl second.now.concl) ≡ gives th) }
 {
     given(defs.eq_mp(alloc, first, second))
+}
+
+/// What `antisym` gives.
+pub(crate) fn equated(
+    alloc: Global,
+    defs: &Defs,
+    first: &Thm,
+    second: &Thm,
+) -> Result<Thm, AllocError>
+    requires first_within { Within first.now.defs defs.now }
+    requires second_within { Within second.now.defs defs.now }
+    ensures { IfOk result (λ th. th ≡ record {
+      defs = defs.now;
+      promises = promise_union first.now.promises second.now.promises;
+      hyps = union (without second.now.concl first.now.hyps) (without first.now.concl second.now.hyps);
+      concl = equal truth_type first.now.concl second.now.concl;
+    }) }
+{
+    given(defs.antisym(alloc, first, second))
+}
+
+/// What `inst` gives, where it gives anything.
+pub(crate) fn replaced(
+    alloc: Global,
+    defs: &Defs,
+    th: &Thm,
+    pairs: &[(Name, Ty, Term)],
+) -> Result<Thm, AllocError>
+    requires within { Within th.now.defs defs.now }
+    requires given { IsGiven (from_one defs.now th.now (all_replaced pairs.now th.now.hyps) (inst_of (signature_of defs.now) pairs.now th.now.concl)) }
+    ensures { IfOk result (λ i. from_one defs.now th.now (all_replaced pairs.now th.now.hyps) (inst_of (signature_of defs.now) pairs.now th.now.concl) ≡ gives i) }
+{
+    given(defs.inst(alloc, th, pairs))
+}
+
+/// What `inst_ty` gives, where it gives anything.
+pub(crate) fn retyped(
+    alloc: Global,
+    defs: &Defs,
+    th: &Thm,
+    pairs: &[(Name, Ty)],
+) -> Result<Thm, AllocError>
+    requires within { Within th.now.defs defs.now }
+    requires given { IsGiven (from_one defs.now th.now (all_retyped_terms pairs.now th.now.hyps) (inst_ty_of (signature_of defs.now) pairs.now th.now.concl)) }
+    ensures { IfOk result (λ i. from_one defs.now th.now (all_retyped_terms pairs.now th.now.hyps) (inst_ty_of (signature_of defs.now) pairs.now th.now.concl) ≡ gives i) }
+{
+    given(defs.inst_ty(alloc, th, pairs))
 }
 
 /// `f x = g x` from `f = g`.

@@ -2,7 +2,7 @@ use Rattle.std.proofs.Common.{◌∙◌, sym}
 use Rattle.fp_term.proofs.Equal.{term_eq-decides}
 use Rattle.fp_kernel.specs.Start.{signature_of}
 use Rattle.fp_conv.proofs.Rewriting.{found_typed, rewriting_stands}
-use Rattle.fp_conv.proofs.rewrite.rewrite_at.Goals as goal
+use Rattle.fp_conv.proofs.at_place.rewrite_at.Goals as goal
 
 pub rewritten-requires-clause-typed : goal.rewritten-requires-clause-typed
 rewritten-requires-clause-typed c =

@@ -1,6 +1,6 @@
 use Rattle.fp_conv.proofs.Given.{within}
 use Rattle.fp_conv.proofs.Rewriting.{under_given, under_equates}
-use Rattle.fp_conv.proofs.rewrite.closed_again.Goals as goal
+use Rattle.fp_conv.proofs.at_place.closed_again.Goals as goal
 
 pub abstracted-requires-clause-within : goal.abstracted-requires-clause-within
 abstracted-requires-clause-within c = within c.requires.inner

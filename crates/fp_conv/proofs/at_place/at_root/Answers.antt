@@ -1,6 +1,6 @@
 use Rattle.fp_conv.proofs.Given.{within}
 use Rattle.fp_conv.proofs.Rewriting.{right_typed, root_given, root_equates}
-use Rattle.fp_conv.proofs.rewrite.at_root.Goals as goal
+use Rattle.fp_conv.proofs.at_place.at_root.Goals as goal
 
 pub reflexive-requires : goal.reflexive-requires
 reflexive-requires c =

@@ -3,7 +3,7 @@ use Rattle.fp_term.specs.TermView.{seen}
 use Rattle.fp_kernel.specs.Start.{signature_of}
 use Rattle.fp_conv.proofs.Rewriting.{argument_typed, argument_there, function_there, body_typed, body_there, own_parts, rewritten_in_function, rewritten_in_argument, rewritten_in_body}
 use Rattle.fp_conv.proofs.Reduced.{function_typed, whole_typed}
-use Rattle.fp_conv.proofs.rewrite.+rewritten.Goals as goal
+use Rattle.fp_conv.proofs.at_place.+rewritten.Goals as goal
 
 pub rewritten-requires : goal.rewritten-requires
 rewritten-requires t c =
