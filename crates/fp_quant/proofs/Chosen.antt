@@ -1,0 +1,60 @@
+-- What the forms of `?` ask, once they have accepted their premises, and what they give.
+use Rattle.std.proofs.Common.{◌≡◌, ◌∙◌, ℕ, true, false, List, [], ◌∷◌, refl, sym, ap, subst}
+use Rattle.std.specs.Prelude.{Some}
+use Rattle.fp_term.specs.Types.{Typ, type_eq}
+use Rattle.fp_term.specs.Terms.{Tm, free, abs, term_eq, opened}
+use Rattle.fp_term.specs.Signatures.{IsWellTyped}
+use Rattle.fp_term.specs.declared.signature.Signature.{Signature}
+use Rattle.fp_term.proofs.Equal.{type_eq-decides}
+use Rattle.fp_conclude.specs.Logic.{for_some}
+use Rattle.fp_conclude.specs.Hypotheses.{without, occurs, occurs_in_any}
+use Rattle.fp_conclude.specs.Outcomes.{gives}
+use Rattle.fp_kernel.specs.Definitions.{Def, Within}
+use Rattle.fp_kernel.specs.Start.{signature_of}
+use Rattle.fp_kernel.specs.Theorems.{Theorem, IsTheorem, from_one}
+use Rattle.fp_logic.specs.Shapes.{argument_in, body_in, IsAbstraction}
+use Rattle.fp_logic.specs.Steps.{by_one}
+use Rattle.fp_quant.specs.Existential.{existence_parts, witness_type, exists_of}
+use Rattle.fp_quant.specs.Existence.{IsPredicate, IsExistence}
+use Rattle.fp_quant.proofs.Existing.{some_predicate}
+use Rattle.fp_quant.proofs.Parted.{existence_shape, existence_at, abstraction_at, body_at, concl_apart, rest_apart, predicate_apart, witness_typed}
+
+-- `choose`
+module _ (defs : List Def) (name : List ℕ) (ty : Typ) (a b : Theorem) (s : Typ) (body p h : Tm) (w : Within a.defs defs) (d : IsTheorem a)
+    (is : existence_parts a.concl ≡ Some (s, body)) (at : p ≡ argument_in a.concl) where
+  pub choose_existence : type_eq ty s ≡ true → IsExistence defs a ty p
+  choose_existence same = subst (λ (x : Typ). IsExistence defs a x p) (sym ((type_eq-decides ty s).0 same)) (existence_at defs a s body p w d is at)
+
+  pub choose_abstraction : IsAbstraction p
+  choose_abstraction = abstraction_at defs a s body p w d is at
+
+  pub choose_held : h ≡ opened 0 (free name ty) body → h ≡ opened 0 (free name ty) (body_in p)
+  choose_held held = held ∙ ap (opened 0 (free name ty)) (sym (body_at defs a s body p w d is at))
+
+  module _ (apart : occurs_in_any name ty (b.concl ∷ a.concl ∷ without h b.hyps) ≡ false) where
+    pub choose_rest : h ≡ opened 0 (free name ty) body → occurs_in_any name ty (without (opened 0 (free name ty) (body_in p)) b.hyps) ≡ false
+    choose_rest held = subst (λ (x : Tm). occurs_in_any name ty (without x b.hyps) ≡ false) (choose_held held) (rest_apart name ty p a b.concl (without h b.hyps) apart)
+
+    pub choose_predicate : occurs name ty p ≡ false
+    choose_predicate = predicate_apart name ty p a b.concl (without h b.hyps) apart s (existence_at defs a s body p w d is at).1
+
+    pub choose_concl : occurs name ty b.concl ≡ false
+    choose_concl = concl_apart name ty p a b.concl (without h b.hyps) apart
+
+-- `exists`
+module _ (g : Signature) (t u : Tm) (s ty : Typ) (body : Tm) (checked : witness_type g t u ≡ gives s) (is : existence_parts t ≡ Some (ty, body)) (same : type_eq s ty ≡ true) where
+  pub exists_typed : IsWellTyped g u ty
+  exists_typed = subst (IsWellTyped g u) ((type_eq-decides s ty).0 same) (witness_typed g t u s checked).1
+
+  pub exists_gives : (p : Tm) → term_eq (opened 0 u body) p ≡ true → exists_of g t u p ≡ gives (for_some ty body)
+  exists_gives p e = rw (checked, is, e, same) (ap gives (existence_shape t (ty, body) is))
+
+pub exists_predicate : (defs : List Def) (t u : Tm) (s ty : Typ) (body : Tm) → witness_type (signature_of defs) t u ≡ gives s → existence_parts t ≡ Some (ty, body) → IsPredicate defs ty (abs ty body)
+exists_predicate defs t u s ty body checked is =
+    let h = (witness_typed (signature_of defs) t u s checked).0 in
+    some_predicate defs ty body h.0 (subst (λ (x : Tm). IsWellTyped (signature_of defs) x h.0) (existence_shape t (ty, body) is) h.1)
+
+pub exists_is : (defs : List Def) (a th : Theorem) (t u : Tm) (s ty : Typ) (body : Tm) → witness_type (signature_of defs) t u ≡ gives s → existence_parts t ≡ Some (ty, body) → type_eq s ty ≡ true →
+    term_eq (opened 0 u body) a.concl ≡ true → th ≡ by_one defs a (for_some ty body) → from_one defs a a.hyps (exists_of (signature_of defs) t u a.concl) ≡ gives th
+exists_is defs a th t u s ty body checked is same e f =
+    ap (λ o. from_one defs a a.hyps o) (exists_gives (signature_of defs) t u s ty body checked is same a.concl e) ∙ ap gives (sym f)

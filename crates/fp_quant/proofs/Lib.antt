@@ -1,0 +1,9 @@
+pub mod Subjects
+pub mod Universals
+pub mod Functions
+pub mod Accepted
+pub mod Placed
+pub mod Existing
+pub mod Reached
+pub mod Parted
+pub mod Chosen

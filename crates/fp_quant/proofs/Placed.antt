@@ -1,0 +1,70 @@
+-- Instances of what has no hypotheses.
+use Rattle.std.proofs.Common.{◌≡◌, ℕ, true, List, [], ◌∷◌, refl, sym, ap, subst}
+use Rattle.std.specs.Prelude.{None, Result, IfOk, codes}
+use Rattle.fp_term.specs.Names.{function}
+use Rattle.fp_term.specs.Types.{Typ, type_eq}
+use Rattle.fp_term.specs.Terms.{Tm, app, replaced, retyped_term}
+use Rattle.fp_term.specs.Signatures.{IsType, IsWellTyped, unknown_in_type}
+use Rattle.fp_term.proofs.Equal.{type_eq-decides}
+use Rattle.fp_term.proofs.Known.{known_type}
+use Rattle.fp_term.proofs.Typed.{typed_over}
+use Rattle.fp_conclude.specs.Logic.{truth_type, alpha, implication}
+use Rattle.fp_conclude.specs.Hypotheses.{all_replaced, all_retyped_terms}
+use Rattle.fp_conclude.specs.Checks.{AreTerms}
+use Rattle.fp_conclude.specs.Outcomes.{gives}
+use Rattle.fp_conclude.specs.Rules.{inst_of, inst_ty_of}
+use Rattle.fp_conclude.proofs.Gives.{inst_gives, inst_ty_gives}
+use Rattle.fp_kernel.specs.Definitions.{Def, Within, whole}
+use Rattle.fp_kernel.specs.Start.{signature_of}
+use Rattle.fp_kernel.specs.Theorems.{Theorem, stands, from_one}
+use Rattle.fp_kernel.proofs.Growing.{from_start}
+use Rattle.fp_logic.specs.Schemas.{q_variable}
+use Rattle.fp_logic.specs.Steps.{plain}
+use Rattle.fp_quant.specs.Existence.{predicate_variable, holds, some_such, reaches, each_chosen, for_alpha, placed}
+
+abbrev Pairs : Type 0
+Pairs = List (List ℕ × Typ × Tm)
+
+pub plain_within : (defs : List Def) (th : Theorem) → th ≡ plain defs th.concl → Within th.defs defs
+plain_within defs th e = subst (λ (x : Theorem). Within x.defs defs) (sym e) whole
+
+-- by a type for `'a`
+abbrev pub Retyping : List Def → Theorem → Typ → Type 0
+Retyping defs th s = from_one defs th (all_retyped_terms (for_alpha s) th.hyps) (inst_ty_of (signature_of defs) (for_alpha s) th.concl) ≡ gives (plain defs (retyped_term (for_alpha s) th.concl))
+
+retyping_of : (defs : List Def) (p : Tm) (s : Typ) → IsType (signature_of defs) s → Retyping defs (plain defs p) s
+retyping_of defs p s h = ap (λ o. stands defs [] [] o) (inst_ty_gives (signature_of defs) (for_alpha s) p (h, tt))
+
+pub retyping_gives : (defs : List Def) (th : Theorem) (s : Typ) → th ≡ plain th.defs th.concl → IsType (signature_of defs) s → Retyping defs th s
+retyping_gives defs th s e h = subst (λ (x : Theorem). Retyping defs x s) (sym e) (retyping_of defs th.concl s h)
+
+-- by terms for variables
+known_types : (defs : List Def) (s : Typ) (t : Tm) → IsWellTyped (signature_of defs) t s → unknown_in_type (signature_of defs) s ≡ None
+known_types defs s t h = known_type (signature_of defs) s (typed_over (signature_of defs) ((from_start defs).types function 2 refl) t s h.over h.typed)
+
+abbrev pub Placing : List Def → Theorem → Pairs → Type 0
+Placing defs th pairs = from_one defs th (all_replaced pairs th.hyps) (inst_of (signature_of defs) pairs th.concl) ≡ gives (plain defs (replaced pairs th.concl))
+
+placing_of : (defs : List Def) (p : Tm) (pairs : Pairs) → AreTerms (signature_of defs) pairs → Placing defs (plain defs p) pairs
+placing_of defs p pairs h = ap (λ o. stands defs [] [] o) (inst_gives (signature_of defs) pairs p (known_types defs) h)
+
+pub placing_gives : (defs : List Def) (th : Theorem) (pairs : Pairs) → th ≡ plain defs th.concl → AreTerms (signature_of defs) pairs → Placing defs th pairs
+placing_gives defs th pairs e h = subst (λ (x : Theorem). Placing defs x pairs) (sym e) (placing_of defs th.concl pairs h)
+
+-- the instances of the three schemas
+own_type : (s : Typ) → type_eq s s ≡ true
+own_type s = (type_eq-decides s s).1 refl
+
+pub introduction_is : (s : Typ) (p t : Tm) → replaced (placed s p (codes "x") s t) (retyped_term (for_alpha s) (implication holds (some_such alpha predicate_variable))) ≡ implication (app p t) (some_such s p)
+introduction_is s p t = rw (own_type s) refl
+
+pub elimination_is : (s : Typ) (p q : Tm) →
+    replaced (placed s p (codes "q") truth_type q) (retyped_term (for_alpha s) (implication (some_such alpha predicate_variable) (reaches alpha predicate_variable q_variable))) ≡ implication (some_such s p) (reaches s p q)
+elimination_is s p q = rw (own_type s) refl
+
+pub choice_is : (s : Typ) (p : Tm) (name : List ℕ) (ty : Typ) (t : Tm) → replaced (placed s p name ty t) (retyped_term (for_alpha s) (each_chosen alpha predicate_variable)) ≡ each_chosen s p
+choice_is s p name ty t = rw (own_type s) refl
+
+-- a theorem without hypotheses, with an equal conclusion
+pub plain_is : {E : Type 0} (r : Result Theorem E) (defs : List Def) (p q : Tm) → p ≡ q → IfOk r (λ th. th ≡ plain defs p) → IfOk r (λ th. th ≡ plain defs q)
+plain_is r defs p q e h = subst (λ (x : Tm). IfOk r (λ th. th ≡ plain defs x)) e h

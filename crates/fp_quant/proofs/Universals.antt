@@ -1,0 +1,61 @@
+-- The definition of `all` at a type, and the steps from it.
+use Rattle.std.proofs.Common.{◌≡◌, ℕ, false, List, [], ◌∷◌, refl, sym, ap, subst}
+use Rattle.std.specs.Prelude.{codes}
+use Rattle.fp_term.specs.Types.{Typ}
+use Rattle.fp_term.specs.Terms.{Tm}
+use Rattle.fp_term.specs.Signatures.{IsType, IsWellTyped}
+use Rattle.fp_conclude.specs.Logic.{predicate_type, equal}
+use Rattle.fp_conclude.specs.Hypotheses.{all_retyped_terms, occurs_in_any}
+use Rattle.fp_conclude.specs.Outcomes.{gives}
+use Rattle.fp_conclude.specs.Rules.{lam_of, inst_ty_of}
+use Rattle.fp_conclude.proofs.Gives.{lam_gives, inst_ty_gives}
+use Rattle.fp_kernel.specs.Definitions.{Def, Within, whole}
+use Rattle.fp_kernel.specs.Start.{signature_of, connective_numbered}
+use Rattle.fp_kernel.specs.Derivability.{IsFormula}
+use Rattle.fp_kernel.specs.Theorems.{Theorem, IsTheorem, stands, from_one}
+use Rattle.fp_logic.specs.Shapes.{side_type, left, right, IsEquation}
+use Rattle.fp_logic.specs.Steps.{plain, by_one, CanUnfold}
+use Rattle.fp_logic.proofs.Turning.{lifted, lifted_sides}
+use Rattle.fp_quant.specs.Meanings.{always, universal_at, CanAbstract, abstractions}
+
+-- abstracting an equation
+lam_as : (defs : List Def) (name : List ℕ) (ty : Typ) (hyps : List Tm) (p : Tm) → IsEquation p → IsType (signature_of defs) ty → occurs_in_any name ty hyps ≡ false →
+    lam_of (signature_of defs) name ty hyps p ≡ gives (abstractions name ty p)
+lam_as defs name ty hyps p e h k =
+    subst (λ (x : Tm). lam_of (signature_of defs) name ty hyps x ≡ gives (abstractions name ty p)) (sym e) (lam_gives (signature_of defs) name ty (side_type p) hyps (left p) (right p) h k)
+
+abbrev pub Abstracted : List Def → List ℕ → Typ → Theorem → Type 0
+Abstracted defs name ty a = from_one defs a a.hyps (lam_of (signature_of defs) name ty a.hyps a.concl) ≡ gives (by_one defs a (abstractions name ty a.concl))
+
+pub abstracted_gives : (defs : List Def) (name : List ℕ) (ty : Typ) (a : Theorem) → CanAbstract defs name ty a → Abstracted defs name ty a
+abstracted_gives defs name ty a h = ap (λ o. from_one defs a a.hyps o) (lam_as defs name ty a.hyps a.concl h.3 h.1 h.2)
+
+-- `all` at a type
+abbrev pub for_type : Typ → List (List ℕ × Typ)
+for_type s = (codes "a", s) ∷ []
+
+abbrev pub Universal : List Def → Typ → Theorem → Type 0
+Universal defs s th = from_one defs th (all_retyped_terms (for_type s) th.hyps) (inst_ty_of (signature_of defs) (for_type s) th.concl) ≡ gives (plain defs (universal_at s))
+
+universal_here : (defs : List Def) (s : Typ) → IsType (signature_of defs) s → Universal defs s (plain defs (connective_numbered 4))
+universal_here defs s h = ap (λ o. stands defs [] [] o) (inst_ty_gives (signature_of defs) (for_type s) (connective_numbered 4) (h, tt))
+
+pub universal_gives : (defs : List Def) (s : Typ) (th : Theorem) → IsType (signature_of defs) s → th ≡ plain defs (connective_numbered 4) → Universal defs s th
+universal_gives defs s th h e = subst (Universal defs s) (sym e) (universal_here defs s h)
+
+pub universal_asks : (defs : List Def) (s : Typ) (p : Tm) → CanUnfold defs (plain defs (universal_at s)) (plain defs (equal (predicate_type s) p p))
+universal_asks defs s p = ((whole, whole, refl, refl), refl)
+
+-- at a term
+pub always_asks : (defs : List Def) (a : Theorem) (s : Typ) (p t : Tm) → CanUnfold defs (by_one defs a (always s p)) (plain defs (equal s t t))
+always_asks defs a s p t = ((whole, whole, refl, refl), refl)
+
+-- the sides of what was derived are well typed
+made_within : (defs : List Def) (th a : Theorem) (p : Tm) → th ≡ by_one defs a p → Within th.defs defs
+made_within defs th a p e = subst (λ (x : Theorem). Within x.defs defs) (sym e) whole
+
+pub left_made : (defs : List Def) (th a : Theorem) (s : Typ) (t u : Tm) → th ≡ by_one defs a (equal s t u) → IsTheorem th → IsWellTyped (signature_of defs) t s
+left_made defs th a s t u e d = (lifted_sides defs th s t u (made_within defs th a (equal s t u) e) d (ap (λ (x : Theorem). x.concl) e)).left
+
+pub concl_made : (defs : List Def) (th a : Theorem) (t : Tm) → th ≡ by_one defs a t → IsTheorem th → IsFormula (signature_of defs) t
+concl_made defs th a t e d = subst (IsFormula (signature_of defs)) (ap (λ (x : Theorem). x.concl) e) (lifted defs th (made_within defs th a t e) d)

@@ -1,0 +1,18 @@
+use Rattle.std.proofs.Common.{refl}
+use Rattle.fp_conclude.specs.Logic.{truth_type, alpha}
+use Rattle.fp_kernel.specs.Definitions.{whole}
+use Rattle.fp_logic.proofs.Concrete.{at_start}
+use Rattle.fp_quant.specs.Existence.{predicate_variable, some_such}
+use Rattle.fp_quant.proofs.existence.elimination.Goals as goal
+
+pub reaches_from-requires : goal.reaches_from-requires
+reaches_from-requires c = c.in_ok-some.ensures
+
+pub discharged-requires-clause-within : goal.discharged-requires-clause-within
+discharged-requires-clause-within c = rw c.in_ok-reaches.ensures whole
+
+pub discharged-requires-clause-formula : goal.discharged-requires-clause-formula
+discharged-requires-clause-formula c = rw c.in_ok-some.ensures (at_start c.args.defs.now (some_such alpha predicate_variable) truth_type refl refl)
+
+pub returns : goal.returns
+returns c = rw (c.in_ok-reaches.ensures, c.in_ok-some.ensures) at c.discharged.ensures

@@ -1,0 +1,15 @@
+use Rattle.std.proofs.Common.{refl}
+use Rattle.fp_conclude.specs.Logic.{truth_type, alpha}
+use Rattle.fp_logic.specs.Schemas.{q_variable}
+use Rattle.fp_logic.proofs.Concrete.{at_start}
+use Rattle.fp_quant.specs.Existence.{predicate_variable, each_implies}
+use Rattle.fp_quant.proofs.existence.implied_by.Goals as goal
+
+pub assumed-requires : goal.assumed-requires
+assumed-requires c = rw c.requires (at_start c.args.defs.now (each_implies alpha predicate_variable q_variable) truth_type refl refl)
+
+pub implied-requires : goal.implied-requires
+implied-requires c = rw (c.in_ok-itself.ensures, c.requires) refl
+
+pub returns : goal.returns
+returns c = rw (c.in_ok-itself.ensures, c.requires) at c.implied.ensures

@@ -1,0 +1,5 @@
+pub mod Universal
+pub mod Meanings
+pub mod Existential
+pub mod Existence
+pub mod Kept

@@ -1,0 +1,171 @@
+//! Forms of `?`. Primitive steps: `exists` 18, `choose` 65, `select` 24.
+ghost use Rattle.std.specs.Prelude.{◌≡◌, ◌∷◌, Some, None, IfOk, MatchOption};
+ghost use Rattle.std.specs.Option.{option_copied};
+ghost use Rattle.fp_term.specs.Terms.{free, opened};
+ghost use Rattle.fp_term.specs.Signatures.{first_of, unknown_in};
+ghost use Rattle.fp_conclude.specs.Checks.{typed};
+ghost use Rattle.fp_conclude.specs.Hypotheses.{without, occurs_in_any};
+ghost use Rattle.fp_conclude.specs.Outcomes.{Answers};
+ghost use Rattle.fp_kernel.specs.Definitions.{Within};
+ghost use Rattle.fp_kernel.specs.Start.{signature_of};
+ghost use Rattle.fp_kernel.specs.Theorems.{from_one};
+ghost use Rattle.fp_quant.specs.Existential.{existence_parts, witness_type, exists_of, choose_from, select_of};
+
+use crate::fault::{free_in_hyps, unknown_name};
+use crate::witness::{chosen, eliminated, witnessed};
+use fp_conclude::{RuleFault, differ, occurs, occurs_in_any, quantifier, without};
+use fp_kernel::{Defs, Thm};
+use fp_logic::shapes::argument_in;
+use fp_term::{Name, Node, Place, Signature, Term, Ty, open_with, same, type_of};
+use std::alloc::{AllocError, Global};
+
+// The type of `v` and the body of `?v. p`.
+#[tactic(auto, unfolding(fp_term::specs::Names::is_name))]
+fn existence_parts(alloc: Global, term: &Term) -> Result<Option<(&Ty, &Term)>, AllocError>
+    ensures { IfOk result (λ o. MatchOption o (existence_parts term.now ≡ None) (λ p. existence_parts term.now ≡ Some (p.0.now, p.1.now))) }
+{
+    let Node::App { fun, arg } = term.node() else {
+        return Ok(None);
+    };
+    let Node::Abs { ty, body } = arg.node() else {
+        return Ok(None);
+    };
+    let constant = quantifier(alloc, b"ex", ty)?;
+    if same(fun, &constant) {
+        Ok(Some((ty, body)))
+    } else {
+        Ok(None)
+    }
+}
+
+fn typed(alloc: Global, term: &Term) -> Result<Ty, RuleFault>
+    ensures { Answers result (typed term.now) }
+{
+    Ok(type_of(alloc, term)?)
+}
+
+// The first unknown name of two terms.
+fn unknown_in_either<'a>(
+    alloc: Global,
+    signature: &Signature,
+    first: &'a Term,
+    second: &'a Term,
+) -> Result<Option<&'a Name>, AllocError>
+    ensures { IfOk result (λ o. option_copied o ≡ first_of (unknown_in signature.now first.now) (unknown_in signature.now second.now)) }
+{
+    match signature.unknown_name(alloc, first)? {
+        Some(name) => Ok(Some(name)),
+        None => signature.unknown_name(alloc, second),
+    }
+}
+
+// The type of the second of two terms, where both are well typed over the signature.
+#[tactic(auto, using(fp_conclude::proofs::Outcomes::faults_then))]
+fn witness_type(
+    alloc: Global,
+    signature: &Signature,
+    term: &Term,
+    witness: &Term,
+) -> Result<Ty, RuleFault>
+    ensures { Answers result (witness_type signature.now term.now witness.now) }
+{
+    if let Some(name) = unknown_in_either(alloc, signature, term, witness)? {
+        return Err(unknown_name(name));
+    }
+    typed(alloc, term)?;
+    typed(alloc, witness)
+}
+
+/// `t`, which is `?v. p`, from `p` with the witness for `v`.
+#[tactic(auto, using(fp_conclude::proofs::Outcomes::faults_then))]
+pub fn exists(
+    alloc: Global,
+    defs: &Defs,
+    term: &Term,
+    witness: &Term,
+    a: &Thm,
+) -> Result<Thm, RuleFault>
+    requires { Within a.now.defs defs.now }
+    ensures { Answers result (from_one defs.now a.now a.now.hyps (exists_of (signature_of defs.now) term.now witness.now a.now.concl)) }
+{
+    let of_witness = witness_type(alloc, defs.signature(), term, witness)?;
+    let parts = existence_parts(alloc, term)?;
+    let Some((ty, body)) = parts else {
+        return Err(RuleFault::Shape);
+    };
+    let held = open_with(alloc, body, witness)?;
+    if !same(&held, a.concl()) {
+        return Err(differ(&held, a.concl()));
+    }
+    if !of_witness.equals(ty) {
+        return Err(RuleFault::IllTyped(Place::here(alloc)));
+    }
+    Ok(witnessed(alloc, defs, a, ty, body, witness)?)
+}
+
+// `p` with `x` for `v`.
+fn held_by(alloc: Global, name: &Name, ty: &Ty, body: &Term) -> Result<Term, AllocError>
+    ensures { IfOk result (λ t. t ≡ opened 0 (free name.now ty.now) body.now) }
+{
+    let variable = Term::free(alloc, name.copy()?, ty.copy()?)?;
+    open_with(alloc, body, &variable)
+}
+
+// Is the variable free in either conclusion or in a hypothesis of the second theorem but that one?
+fn is_free(
+    alloc: Global,
+    name: &Name,
+    ty: &Ty,
+    a: &Thm,
+    b: &Thm,
+    held: &Term,
+) -> Result<bool, AllocError>
+    ensures { IfOk result (λ free. free ≡ occurs_in_any name.now ty.now (b.now.concl ∷ a.now.concl ∷ without held.now b.now.hyps)) }
+{
+    let rest = without(alloc, held, b.hyps())?;
+    let in_rest = occurs_in_any(name, ty, rest.as_slice());
+    Ok(occurs(name, ty, b.concl()) || (occurs(name, ty, a.concl()) || in_rest))
+}
+
+/// `q` from `?v. p` and from `q`, without `p` with the variable for `v` among the hypotheses of the second theorem. The
+/// variable is free neither in `q` nor in `?v. p` nor in another hypothesis of the second theorem.
+pub fn choose(
+    alloc: Global,
+    defs: &Defs,
+    name: &Name,
+    ty: &Ty,
+    a: &Thm,
+    b: &Thm,
+) -> Result<Thm, RuleFault>
+    requires first_within { Within a.now.defs defs.now }
+    requires second_within { Within b.now.defs defs.now }
+    ensures { Answers result (choose_from defs.now name.now ty.now a.now b.now) }
+{
+    if let Some(unknown) = defs.signature().unknown_in_type(ty) {
+        return Err(unknown_name(unknown));
+    }
+    let parts = existence_parts(alloc, a.concl())?;
+    let Some((bound, body)) = parts else {
+        return Err(RuleFault::Shape);
+    };
+    let held = held_by(alloc, name, ty, body)?;
+    if is_free(alloc, name, ty, a, b, &held)? {
+        return Err(free_in_hyps(name));
+    }
+    if !ty.equals(bound) {
+        return Err(RuleFault::IllTyped(Place::here(alloc)));
+    }
+    Ok(eliminated(alloc, defs, name, ty, argument_in(a.concl()), a, b)?)
+}
+
+/// `p` with `@v. p` for `v`, from `?v. p`.
+pub fn select(alloc: Global, defs: &Defs, a: &Thm) -> Result<Thm, RuleFault>
+    requires { Within a.now.defs defs.now }
+    ensures { Answers result (from_one defs.now a.now a.now.hyps (select_of a.now.concl)) }
+{
+    let parts = existence_parts(alloc, a.concl())?;
+    let Some((ty, _)) = parts else {
+        return Err(RuleFault::Shape);
+    };
+    Ok(chosen(alloc, defs, a, ty, argument_in(a.concl()))?)
+}

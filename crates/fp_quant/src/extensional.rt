@@ -1,0 +1,197 @@
+//! `ext`. Primitive steps: 14.
+ghost use Rattle.std.specs.Prelude.{◌≡◌, ◌||◌, false, codes, IfOk};
+ghost use Rattle.std.specs.Option.{option_copied};
+ghost use Rattle.fp_term.specs.Terms.{free, app, abs};
+ghost use Rattle.fp_term.specs.Typing.{function_type};
+ghost use Rattle.fp_term.specs.Signatures.{IsType, IsWellTyped};
+ghost use Rattle.fp_conclude.specs.Logic.{equal};
+ghost use Rattle.fp_conclude.specs.Hypotheses.{occurs, occurs_in_any};
+ghost use Rattle.fp_conclude.specs.Outcomes.{Answers};
+ghost use Rattle.fp_kernel.specs.Definitions.{Within};
+ghost use Rattle.fp_kernel.specs.Start.{signature_of};
+ghost use Rattle.fp_kernel.specs.Theorems.{from_one};
+ghost use Rattle.fp_logic.specs.Shapes.{side_type, left, right, IsEquation};
+ghost use Rattle.fp_logic.specs.Steps.{plain, by_one};
+ghost use Rattle.fp_quant.specs.Meanings.{eta_at, expansion};
+ghost use Rattle.fp_quant.specs.Universal.{applied_to_variable, ext_of};
+
+use crate::fault::{free_in_hyps, unknown_name};
+use crate::steps::{abstracted, extension, for_alpha, for_beta};
+use fp_conclude::{RuleFault, occurs, occurs_in_any, sides};
+use fp_kernel::{Defs, Thm};
+use fp_logic::equations::swap;
+use fp_logic::shapes::left;
+use fp_logic::steps::{chain, given};
+use fp_term::{Name, Node, Term, Ty, function_of, same};
+use std::alloc::{AllocError, Global};
+
+// `(%x. t x) = t`, for functions from the one type to the other.
+fn eta_schema(alloc: Global, defs: &Defs, from: &Ty, to: &Ty) -> Result<Thm, AllocError>
+    requires first { IsType (signature_of defs.now) from.now }
+    requires second { IsType (signature_of defs.now) to.now }
+    ensures { IfOk result (λ th. th ≡ plain defs.now (eta_at from.now to.now (free (codes "t") (function_type from.now to.now)))) }
+{
+    let axiom = extension(alloc, defs)?;
+    let first = for_alpha(alloc, from)?;
+    let pairs = [first, for_beta(alloc, to)?];
+    given(defs.inst_ty(alloc, &axiom, &pairs))
+}
+
+// The type of functions from the one type to the other.
+fn functions_type(alloc: Global, from: &Ty, to: &Ty) -> Result<Ty, AllocError>
+    ensures { IfOk result (λ ty. ty ≡ function_type from.now to.now) }
+{
+    function_of(alloc, from.copy()?, to.copy()?)
+}
+
+// A function for the variable `t`.
+#[tactic(auto, unfolding(fp_term::specs::Names::is_name))]
+fn for_t(alloc: Global, from: &Ty, to: &Ty, function: &Term) -> Result<(Name, Ty, Term), AllocError>
+    ensures { IfOk result (λ p. p ≡ (codes "t", function_type from.now to.now, function.now)) }
+{
+    let ty = functions_type(alloc, from, to)?;
+    Ok((Name::of(alloc, b"t")?, ty, function.copy()?))
+}
+
+// `(%x. f x) = f`.
+fn eta(alloc: Global, defs: &Defs, from: &Ty, to: &Ty, function: &Term) -> Result<Thm, AllocError>
+    requires { IsWellTyped (signature_of defs.now) function.now (function_type from.now to.now) }
+    ensures { IfOk result (λ th. th ≡ plain defs.now (eta_at from.now to.now function.now)) }
+{
+    let schema = eta_schema(alloc, defs, from, to)?;
+    let pairs = [for_t(alloc, from, to, function)?];
+    given(defs.inst(alloc, &schema, &pairs))
+}
+
+// Two functions, from which type and to which.
+#[derive(Drop)]
+struct Functions<'a> {
+    from: &'a Ty,
+    to: &'a Ty,
+    left: &'a Term,
+    right: &'a Term,
+}
+
+// `f = (%x. f x)`, for the first function.
+fn expanded(alloc: Global, defs: &Defs, functions: &Functions<'_>) -> Result<Thm, AllocError>
+    requires { IsWellTyped (signature_of defs.now) functions.now.left.now (function_type functions.now.from.now functions.now.to.now) }
+    ensures { IfOk result (λ th. th ≡ plain defs.now (equal (function_type functions.now.from.now functions.now.to.now) functions.now.left.now (expansion functions.now.from.now functions.now.left.now))) }
+{
+    let ty = functions_type(alloc, functions.from, functions.to)?;
+    let eta = eta(alloc, defs, functions.from, functions.to, functions.left)?;
+    swap(alloc, defs, &eta, &ty, left(eta.concl()))
+}
+
+// `f = (%x. g x)` from `(%x. f x) = (%x. g x)`.
+fn left_reduced(
+    alloc: Global,
+    defs: &Defs,
+    functions: &Functions<'_>,
+    th: &Thm,
+) -> Result<Thm, AllocError>
+    requires within { Within th.now.defs defs.now }
+    requires typed { IsWellTyped (signature_of defs.now) functions.now.left.now (function_type functions.now.from.now functions.now.to.now) }
+    requires shape { th.now.concl ≡ equal (function_type functions.now.from.now functions.now.to.now) (expansion functions.now.from.now functions.now.left.now) (expansion functions.now.from.now functions.now.right.now) }
+    ensures { IfOk result (λ r. r ≡ by_one defs.now th.now (equal (function_type functions.now.from.now functions.now.to.now) functions.now.left.now (expansion functions.now.from.now functions.now.right.now))) }
+{
+    let _hyps = th.hyps();
+    let _promises = th.promises();
+    let expanded = expanded(alloc, defs, functions)?;
+    chain(alloc, defs, &expanded, th)
+}
+
+// `f = g` from `f = (%x. g x)`.
+fn right_reduced(
+    alloc: Global,
+    defs: &Defs,
+    functions: &Functions<'_>,
+    th: &Thm,
+) -> Result<Thm, AllocError>
+    requires within { Within th.now.defs defs.now }
+    requires typed { IsWellTyped (signature_of defs.now) functions.now.right.now (function_type functions.now.from.now functions.now.to.now) }
+    requires shape { th.now.concl ≡ equal (function_type functions.now.from.now functions.now.to.now) functions.now.left.now (expansion functions.now.from.now functions.now.right.now) }
+    ensures { IfOk result (λ r. r ≡ by_one defs.now th.now (equal (function_type functions.now.from.now functions.now.to.now) functions.now.left.now functions.now.right.now)) }
+{
+    let eta = eta(alloc, defs, functions.from, functions.to, functions.right)?;
+    chain(alloc, defs, th, &eta)
+}
+
+// `f = g` from `f x = g x`.
+fn extended(
+    alloc: Global,
+    defs: &Defs,
+    name: &Name,
+    functions: &Functions<'_>,
+    a: &Thm,
+) -> Result<Thm, AllocError>
+    requires within { Within a.now.defs defs.now }
+    requires known { IsType (signature_of defs.now) functions.now.from.now }
+    requires shape { a.now.concl ≡ equal functions.now.to.now (app functions.now.left.now (free name.now functions.now.from.now)) (app functions.now.right.now (free name.now functions.now.from.now)) }
+    requires left { occurs name.now functions.now.from.now functions.now.left.now ≡ false }
+    requires right { occurs name.now functions.now.from.now functions.now.right.now ≡ false }
+    requires hyps { occurs_in_any name.now functions.now.from.now a.now.hyps ≡ false }
+    ensures { IfOk result (λ th. th ≡ by_one defs.now a.now (equal (function_type functions.now.from.now functions.now.to.now) functions.now.left.now functions.now.right.now)) }
+{
+    let _concl = a.concl();
+    let alike = abstracted(alloc, defs, name, functions.from, a)?;
+    let first = left_reduced(alloc, defs, functions, &alike)?;
+    right_reduced(alloc, defs, functions, &first)
+}
+
+// The function that is applied to the variable.
+fn applied_to_variable<'a>(
+    alloc: Global,
+    name: &Name,
+    ty: &Ty,
+    term: &'a Term,
+) -> Result<Option<&'a Term>, AllocError>
+    ensures { IfOk result (λ o. option_copied o ≡ applied_to_variable name.now ty.now term.now) }
+{
+    let Node::App { fun, arg } = term.node() else {
+        return Ok(None);
+    };
+    let variable = Term::free(alloc, name.copy()?, ty.copy()?)?;
+    if same(arg, &variable) {
+        Ok(Some(fun))
+    } else {
+        Ok(None)
+    }
+}
+
+// Is the variable free in one of the functions or in a hypothesis?
+fn is_free(name: &Name, functions: &Functions<'_>, hyps: &[Term]) -> bool
+    ensures { result ≡ (occurs name.now functions.now.from.now functions.now.left.now || occurs name.now functions.now.from.now functions.now.right.now || occurs_in_any name.now functions.now.from.now hyps.now) }
+{
+    occurs(name, functions.from, functions.left)
+        || occurs(name, functions.from, functions.right)
+        || occurs_in_any(name, functions.from, hyps)
+}
+
+/// `f = g` from `f x = g x`.
+pub fn ext(alloc: Global, defs: &Defs, name: &Name, ty: &Ty, a: &Thm) -> Result<Thm, RuleFault>
+    requires { Within a.now.defs defs.now }
+    ensures { Answers result (from_one defs.now a.now a.now.hyps (ext_of (signature_of defs.now) name.now ty.now a.now.hyps a.now.concl)) }
+{
+    if let Some(unknown) = defs.signature().unknown_in_type(ty) {
+        return Err(unknown_name(unknown));
+    }
+    let Some(sides) = sides(a.concl()) else {
+        return Err(RuleFault::NotEquation);
+    };
+    let Some(left) = applied_to_variable(alloc, name, ty, sides.left)? else {
+        return Err(RuleFault::Shape);
+    };
+    let Some(right) = applied_to_variable(alloc, name, ty, sides.right)? else {
+        return Err(RuleFault::Shape);
+    };
+    let functions = Functions {
+        from: ty,
+        to: sides.ty,
+        left,
+        right,
+    };
+    if is_free(name, &functions, a.hyps()) {
+        return Err(free_in_hyps(name));
+    }
+    Ok(extended(alloc, defs, name, &functions, a)?)
+}

@@ -1,0 +1,119 @@
+//! Instances of what is derived for variables, each two primitive steps.
+ghost use Rattle.std.specs.Prelude.{◌≡◌, codes, IfOk, IsTrue};
+ghost use Rattle.fp_term.specs.Names.{is_name};
+ghost use Rattle.fp_term.specs.Terms.{app, replaced, retyped_term};
+ghost use Rattle.fp_term.specs.Signatures.{IsType, IsWellTyped};
+ghost use Rattle.fp_conclude.specs.Logic.{truth_type, predicate_type, implication};
+ghost use Rattle.fp_conclude.specs.Checks.{AreTerms};
+ghost use Rattle.fp_kernel.specs.Definitions.{Within};
+ghost use Rattle.fp_kernel.specs.Derivability.{IsFormula};
+ghost use Rattle.fp_kernel.specs.Start.{signature_of};
+ghost use Rattle.fp_logic.specs.Steps.{plain};
+ghost use Rattle.fp_quant.specs.Existence.{some_such, reaches, each_chosen, for_alpha, placed, IsPredicate};
+
+use crate::kept::{Schema, recalled};
+use crate::steps::for_alpha;
+use fp_conclude::{predicate_over, truth_type};
+use fp_kernel::{Defs, Thm};
+use fp_logic::steps::given;
+use fp_term::{Name, Term, Ty};
+use std::alloc::{AllocError, Global};
+
+// The instance by a type for `'a` of a theorem over some of the definitions.
+fn retyped(alloc: Global, defs: &Defs, th: &Thm, ty: &Ty) -> Result<Thm, AllocError>
+    requires whole { th.now ≡ plain th.now.defs th.now.concl }
+    requires within { Within th.now.defs defs.now }
+    requires known { IsType (signature_of defs.now) ty.now }
+    ensures { IfOk result (λ i. i ≡ plain defs.now (retyped_term (for_alpha ty.now) th.now.concl)) }
+{
+    let pairs = [for_alpha(alloc, ty)?];
+    given(defs.inst_ty(alloc, th, &pairs))
+}
+
+// A term for the variable of that name and type.
+fn pair(alloc: Global, name: &[u8], ty: &Ty, term: &Term) -> Result<(Name, Ty, Term), AllocError>
+    requires { IsTrue (is_name name.now) }
+    ensures { IfOk result (λ p. p ≡ (name.now, ty.now, term.now)) }
+{
+    Ok((Name::of(alloc, name)?, ty.copy()?, term.copy()?))
+}
+
+// A predicate for `P`.
+#[tactic(auto, unfolding(fp_term::specs::Names::is_name))]
+fn for_predicate(alloc: Global, ty: &Ty, predicate: &Term) -> Result<(Name, Ty, Term), AllocError>
+    ensures { IfOk result (λ p. p ≡ (codes "P", predicate_type ty.now, predicate.now)) }
+{
+    let of_predicate = predicate_over(alloc, ty)?;
+    pair(alloc, b"P", &of_predicate, predicate)
+}
+
+// The instance by a predicate for `P` and by a term for another variable.
+fn with_terms(
+    alloc: Global,
+    defs: &Defs,
+    th: &Thm,
+    ty: &Ty,
+    predicate: &Term,
+    other: (Name, Ty, Term),
+) -> Result<Thm, AllocError>
+    requires whole { th.now ≡ plain defs.now th.now.concl }
+    requires typed { AreTerms (signature_of defs.now) (placed ty.now predicate.now other.0 other.1 other.2) }
+    ensures { IfOk result (λ i. i ≡ plain defs.now (replaced (placed ty.now predicate.now other.0 other.1 other.2) th.now.concl)) }
+{
+    let pairs = [for_predicate(alloc, ty, predicate)?, other];
+    given(defs.inst(alloc, th, &pairs))
+}
+
+/// `P t --> ex P`
+#[tactic(auto, unfolding(fp_term::specs::Names::is_name))]
+pub(crate) fn introduction_at(
+    alloc: Global,
+    defs: &Defs,
+    ty: &Ty,
+    predicate: &Term,
+    term: &Term,
+) -> Result<Thm, AllocError>
+    requires predicate { IsPredicate defs.now ty.now predicate.now }
+    requires typed { IsWellTyped (signature_of defs.now) term.now ty.now }
+    ensures { IfOk result (λ th. th ≡ plain defs.now (implication (app predicate.now term.now) (some_such ty.now predicate.now))) }
+{
+    let schema = recalled(alloc, defs, Schema::Introduction)?;
+    let typed = retyped(alloc, defs, &schema, ty)?;
+    let other = pair(alloc, b"x", ty, term)?;
+    with_terms(alloc, defs, &typed, ty, predicate, other)
+}
+
+/// `ex P --> (!x. P x --> q) --> q`
+#[tactic(auto, unfolding(fp_term::specs::Names::is_name))]
+pub(crate) fn elimination_at(
+    alloc: Global,
+    defs: &Defs,
+    ty: &Ty,
+    predicate: &Term,
+    formula: &Term,
+) -> Result<Thm, AllocError>
+    requires predicate { IsPredicate defs.now ty.now predicate.now }
+    requires formula { IsFormula (signature_of defs.now) formula.now }
+    ensures { IfOk result (λ th. th ≡ plain defs.now (implication (some_such ty.now predicate.now) (reaches ty.now predicate.now formula.now))) }
+{
+    let schema = recalled(alloc, defs, Schema::Elimination)?;
+    let typed = retyped(alloc, defs, &schema, ty)?;
+    let other = pair(alloc, b"q", &truth_type(alloc)?, formula)?;
+    with_terms(alloc, defs, &typed, ty, predicate, other)
+}
+
+/// `!x. P x --> P (select P)`
+pub(crate) fn choice_at(
+    alloc: Global,
+    defs: &Defs,
+    ty: &Ty,
+    predicate: &Term,
+) -> Result<Thm, AllocError>
+    requires { IsPredicate defs.now ty.now predicate.now }
+    ensures { IfOk result (λ th. th ≡ plain defs.now (each_chosen ty.now predicate.now)) }
+{
+    let schema = recalled(alloc, defs, Schema::Choice)?;
+    let typed = retyped(alloc, defs, &schema, ty)?;
+    let other = for_predicate(alloc, ty, predicate)?;
+    with_terms(alloc, defs, &typed, ty, predicate, other)
+}
