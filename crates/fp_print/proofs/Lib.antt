@@ -1,0 +1,3 @@
+pub mod Loose
+mod Sizes
+pub mod Unused
