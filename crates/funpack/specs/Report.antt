@@ -1,5 +1,5 @@
--- What is written for a file of definitions.
-use Rattle.std.specs.Prelude.{◌≡◌, ◌≤◌, ◌<◌, ℕ, List, [], ◌∷◌, ◌++◌, length, Bool, true, false, Option, Some, None, unwrap_or, codes}
+-- What is written for a file of definitions, in the full form or the short one.
+use Rattle.std.specs.Prelude.{◌≡◌, ◌≤◌, ◌<◌, ℕ, if◌then◌else◌, List, [], ◌∷◌, ◌++◌, length, Bool, true, false, Option, Some, None, unwrap_or, codes}
 use Rattle.std.specs.Fmt.{decimal}
 use Rattle.std.specs.Io.KnownBytes.{Appends}
 use Rattle.fp_outside.specs.Held.{file_in}
@@ -15,6 +15,7 @@ use Rattle.fp_kernel.specs.Defining as kernel
 use Rattle.fp_full.specs.Grammar.{Entry}
 use Rattle.fp_full.specs.Texts.{of_file, entries, IsText, KeepsLimits, FirstBad, FirstTooDeep, FirstTooLong}
 use Rattle.fp_full.specs.Printing.{printed_statement}
+use Rattle.fp_print.specs.Texts.{short_statement}
 use Rattle.funpack.specs.Words.{usage_line}
 
 -- why a file or a definition is refused
@@ -71,44 +72,48 @@ place_of (kernel.ill_typed_at place) e = e.brace
 place_of (kernel.not_closed name) e = e.at
 place_of (kernel.hidden_type name) e = e.at
 
+-- the text of a statement
+abbrev pub statement_text : Bool → List Tm → Tm → List ℕ
+statement_text full hyps concl = if full then printed_statement hyps concl else short_statement hyps concl
+
 -- the statement of a definition, and its line
 abbrev pub statement_of : Entry → Typ → Tm
 statement_of e s = equal s (constant e.name s) e.term
 
-abbrev pub definition_line : Entry → Typ → List ℕ
-definition_line e s = codes "definition " ++ e.name ++ codes "_def: " ++ printed_statement [] (statement_of e s) ++ 10 ∷ []
+abbrev pub definition_line : Bool → Entry → Typ → List ℕ
+definition_line full e s = codes "definition " ++ e.name ++ codes "_def: " ++ statement_text full [] (statement_of e s) ++ 10 ∷ []
 
 abbrev pub with_entry : Entry → Typ → List Def → List Def
 with_entry e s defs = new_constant e.name s e.term ∷ defs
 
--- `Carries file defs es text refused`: the definitions of a file, carried out in order after others, give that text and end with a
+-- `Carries full file defs es text refused`: the definitions of a file, carried out in order after others, give that text and end with a
 -- refusal or not. Each printed statement is derivable from the definitions printed up to it, without hypotheses and promises,
 -- and these are conservative
-pub data Carries (file : List ℕ) : List Def → List Entry → List ℕ → Bool → Type 0 where
-  done : {defs : List Def} → Carries file defs [] [] false
+pub data Carries (full : Bool) (file : List ℕ) : List Def → List Entry → List ℕ → Bool → Type 0 where
+  done : {defs : List Def} → Carries full file defs [] [] false
   accepted : {defs : List Def} {es : List Entry} {text : List ℕ} {ends : Bool} (e : Entry) (s : Typ) →
       defining defs e.name e.term ≡ made s → IsConservative (with_entry e s defs) → Derives (with_entry e s defs) [] [] (statement_of e s) →
-      Carries file (with_entry e s defs) es text ends → Carries file defs (e ∷ es) (definition_line e s ++ text) ends
+      Carries full file (with_entry e s defs) es text ends → Carries full file defs (e ∷ es) (definition_line full e s ++ text) ends
   stopped : {defs : List Def} {es : List Entry} (e : Entry) (r : Refusal) →
-      defining defs e.name e.term ≡ refused r → Carries file defs (e ∷ es) (refusal_line file (place_of r e) (fault_of r)) true
+      defining defs e.name e.term ≡ refused r → Carries full file defs (e ∷ es) (refusal_line file (place_of r e) (fault_of r)) true
 
 -- the text of a file of these bytes, and whether it ends with a refusal
-pub data IsReport (file bytes : List ℕ) : List ℕ → Bool → Type 0 where
+pub data IsReport (full : Bool) (file bytes : List ℕ) : List ℕ → Bool → Type 0 where
   carried : {text : List ℕ} {ends : Bool} (es : List Entry) → length bytes ≤ byte_limit → IsText bytes (entries es) → KeepsLimits bytes (length bytes) →
-      Carries file [] es text ends → IsReport file bytes text ends
-  unread : (fault : Fault) (at : ℕ) → IsFileFault fault bytes at → IsReport file bytes (refusal_line file at fault) true
+      Carries full file [] es text ends → IsReport full file bytes text ends
+  unread : (fault : Fault) (at : ℕ) → IsFileFault fault bytes at → IsReport full file bytes (refusal_line file at fault) true
 
 -- where it is told what the files hold, this is the text of the named one; a file that isn't there counts as an empty one
-abbrev pub Reports : Option (List (List ℕ × List ℕ)) → List ℕ → List ℕ → Bool → Type 0
-Reports None file text ends = Unit {0}
-Reports (Some files) file text ends = IsReport file (unwrap_or (file_in files file) []) text ends
+abbrev pub Reports : Option (List (List ℕ × List ℕ)) → Bool → List ℕ → List ℕ → Bool → Type 0
+Reports None full file text ends = Unit {0}
+Reports (Some files) full file text ends = IsReport full file (unwrap_or (file_in files file) []) text ends
 
 -- the words name a file, and its text is written whole
-abbrev pub Writes : Option (List ℕ) → Option (List (List ℕ × List ℕ)) → Option (List ℕ) → Option (List ℕ) → Bool → Type 0
+abbrev pub Writes : Option (Bool × List ℕ) → Option (List (List ℕ × List ℕ)) → Option (List ℕ) → Option (List ℕ) → Bool → Type 0
 Writes None held old new ends = ⊥
-Writes (Some file) held old new ends = (text : List ℕ) × Reports held file text ends × Appends old new text
+Writes (Some words) held old new ends = (text : List ℕ) × Reports held words.0 words.1 text ends × Appends old new text
 
 -- a first part of the text, or of the usage line, is written
-abbrev pub WritesPart : Option (List ℕ) → Option (List (List ℕ × List ℕ)) → Option (List ℕ) → Option (List ℕ) → Type 0
+abbrev pub WritesPart : Option (Bool × List ℕ) → Option (List (List ℕ × List ℕ)) → Option (List ℕ) → Option (List ℕ) → Type 0
 WritesPart None held old new = AppendsPrefix old new usage_line
-WritesPart (Some file) held old new = (text : List ℕ) × (ends : Bool) × Reports held file text ends × AppendsPrefix old new text
+WritesPart (Some words) held old new = (text : List ℕ) × (ends : Bool) × Reports held words.0 words.1 text ends × AppendsPrefix old new text

@@ -8,10 +8,10 @@ use Rattle.fp_kernel.specs.Defining.{Refusal, defining, made, refused}
 use Rattle.fp_full.specs.Grammar.{Entry}
 use Rattle.funpack.specs.Report.{with_entry, statement_of, definition_line, refusal_line, place_of, fault_of}
 
--- `Steps file old new e before after refuses`: the definition, after the old ones, makes the list new and its line goes behind
+-- `Steps full file old new e before after refuses`: the definition, after the old ones, makes the list new and its line goes behind
 -- the text before, or it is refused and the line of that does
-pub data Steps (file : List ℕ) (old new : List Def) (e : Entry) (before after : List ℕ) : Bool → Type 0 where
+pub data Steps (full : Bool) (file : List ℕ) (old new : List Def) (e : Entry) (before after : List ℕ) : Bool → Type 0 where
   goes : (s : Typ) → defining old e.name e.term ≡ made s → new ≡ with_entry e s old → IsConservative (with_entry e s old) →
-      Derives (with_entry e s old) [] [] (statement_of e s) → after ≡ before ++ definition_line e s → Steps file old new e before after false
+      Derives (with_entry e s old) [] [] (statement_of e s) → after ≡ before ++ definition_line full e s → Steps full file old new e before after false
   stops : (r : Refusal) → defining old e.name e.term ≡ refused r → after ≡ before ++ refusal_line file (place_of r e) (fault_of r) →
-      Steps file old new e before after true
+      Steps full file old new e before after true

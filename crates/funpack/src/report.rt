@@ -6,6 +6,7 @@ ghost use Rattle.funpack.specs.declared.report.ReportFault.TheVariants as fault;
 
 use crate::commands::carry_out;
 use crate::refusal::{Reason, Refusal, push_refusal};
+use crate::words::Words;
 use fp_full::{FullFault, read_definitions_at};
 use fp_outside::{Files, ReadFault, read_all};
 use std::alloc::{AllocError, Global};
@@ -50,30 +51,34 @@ fn unread(alloc: Global, file: &str, at: u32, reason: Reason) -> Result<Report, 
 }
 
 // The text of a file of these bytes.
-fn report_on(alloc: Global, file: &str, bytes: &[u8]) -> Result<Report, AllocError>
+fn report_on(alloc: Global, words: &Words<'_>, bytes: &[u8]) -> Result<Report, AllocError>
     requires { length bytes.now ≤ LIMIT }
-    ensures { IfOk result (λ report. IsReport file.now bytes.now report.text.items report.refused) }
+    ensures { IfOk result (λ report. IsReport words.now.full words.now.file.now bytes.now report.text.items report.refused) }
 {
     match read_definitions_at(alloc, bytes) {
-        Ok(definitions) => carry_out(alloc, file, &definitions),
-        Err(FullFault::Refused(at)) => unread(alloc, file, at, Reason::Syntax),
-        Err(FullFault::TooDeep(at)) => unread(alloc, file, at, Reason::TooDeep),
-        Err(FullFault::NameTooLong(at)) => unread(alloc, file, at, Reason::NameTooLong),
+        Ok(definitions) => carry_out(alloc, words, &definitions),
+        Err(FullFault::Refused(at)) => unread(alloc, words.file, at, Reason::Syntax),
+        Err(FullFault::TooDeep(at)) => unread(alloc, words.file, at, Reason::TooDeep),
+        Err(FullFault::NameTooLong(at)) => unread(alloc, words.file, at, Reason::NameTooLong),
         Err(FullFault::NoMemory) => Err(AllocError),
     }
 }
 
 // The text of the named file. `Failed` comes exactly where the count of the files rose, and the only other fault is want of
 // memory.
-pub fn report_of<F: Files>(alloc: Global, files: &mut F, file: &str) -> Result<Report, ReportFault>
+pub fn report_of<F: Files>(
+    alloc: Global,
+    files: &mut F,
+    words: &Words<'_>,
+) -> Result<Report, ReportFault>
     requires { F.faults files.old < 2 ^ 64 - 1 }
-    ensures reports { IfOk result (λ report. Reports (F.held files.old) file.now report.text.items report.refused) }
+    ensures reports { IfOk result (λ report. Reports (F.held files.old) words.now.full words.now.file.now report.text.items report.refused) }
     ensures failed { IsErrOf result ReportFault.Failed ↔ (F.faults files.old < F.faults files.new) }
     ensures counts { F.faults files.old ≤ F.faults files.new }
 {
-    match read_all(alloc, files, file, LIMIT) {
-        Ok(bytes) => Ok(report_on(alloc, file, &bytes)?),
-        Err(ReadFault::TooLong) => Ok(unread(alloc, file, 4194304, Reason::TooLong)?),
+    match read_all(alloc, files, words.file, LIMIT) {
+        Ok(bytes) => Ok(report_on(alloc, words, &bytes)?),
+        Err(ReadFault::TooLong) => Ok(unread(alloc, words.file, 4194304, Reason::TooLong)?),
         Err(ReadFault::Failed) => Err(ReportFault::Failed),
         Err(ReadFault::NoMemory) => Err(ReportFault::NoMemory),
     }

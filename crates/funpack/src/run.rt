@@ -2,11 +2,11 @@ ghost use Rattle.std.specs.Prelude.{◌≡◌, ◌≢◌, ◌≤◌, ◌<◌, �
 ghost use Rattle.std.specs.String.{string_bytes};
 ghost use Rattle.std.specs.Io.KnownBytes.{Appends};
 ghost use Rattle.fp_outside.specs.Sink.{AppendsPrefix};
-ghost use Rattle.funpack.specs.Words.{file_word, usage_line};
+ghost use Rattle.funpack.specs.Words.{asked, usage_line};
 ghost use Rattle.funpack.specs.Report.{Writes, WritesPart};
 
 use crate::report::{ReportFault, report_of};
-use crate::words::file_in;
+use crate::words::{Words, asked};
 use fp_outside::{Failed, Files, Sink, write_all};
 use std::alloc::Global;
 
@@ -21,47 +21,47 @@ pub fn run<F: Files, K: Sink>(alloc: Global, words: &[String], files: &mut F, si
     requires sink { K.faults sink.old < 2 ^ 64 - 1 }
 
     // With 0 or 1 the whole text of the file is written, and no call failed.
-    ensures accepted { result ≡ 0 → Writes (file_word (map string_bytes words.now)) (F.held files.old) (K.written sink.old) (K.written sink.new) false }
-    ensures refused { result ≡ 1 → Writes (file_word (map string_bytes words.now)) (F.held files.old) (K.written sink.old) (K.written sink.new) true }
+    ensures accepted { result ≡ 0 → Writes (asked (map string_bytes words.now)) (F.held files.old) (K.written sink.old) (K.written sink.new) false }
+    ensures refused { result ≡ 1 → Writes (asked (map string_bytes words.now)) (F.held files.old) (K.written sink.old) (K.written sink.new) true }
     ensures quiet { result < 3 → (F.faults files.new ≡ F.faults files.old) × (K.faults sink.new ≡ K.faults sink.old) }
 
     // Malformed words give the usage line, and no file is opened.
-    ensures malformed { result ≡ 2 ↔ (file_word (map string_bytes words.now) ≡ None) × (K.faults sink.new ≡ K.faults sink.old) }
+    ensures malformed { result ≡ 2 ↔ (asked (map string_bytes words.now) ≡ None) × (K.faults sink.new ≡ K.faults sink.old) }
     ensures usage { result ≡ 2 → Appends (K.written sink.old) (K.written sink.new) usage_line }
-    ensures unopened { file_word (map string_bytes words.now) ≡ None → files.new ≡ files.old }
+    ensures unopened { asked (map string_bytes words.now) ≡ None → files.new ≡ files.old }
 
     // A fault is answered only where its count rose. A first part of the text is written then, or nothing.
     ensures files_fault { result ≡ 3 → (F.faults files.old < F.faults files.new) × (sink.new ≡ sink.old) }
     ensures sink_fault { result ≡ 4 → (K.faults sink.old < K.faults sink.new)
-        × WritesPart (file_word (map string_bytes words.now)) (F.held files.old) (K.written sink.old) (K.written sink.new) }
+        × WritesPart (asked (map string_bytes words.now)) (F.held files.old) (K.written sink.old) (K.written sink.new) }
     ensures memory { result ≡ 5 → sink.new ≡ sink.old }
 
     // Without a fault there is no other answer than these and want of memory.
     ensures complete { F.faults files.new ≡ F.faults files.old → K.faults sink.new ≡ K.faults sink.old → (result < 3) ⊎ (result ≡ 5) }
     ensures range { result ≤ 5 }
 {
-    let Some(file) = file_in(words) else {
+    let Some(words) = asked(words) else {
         return finish(sink, USAGE, 2);
     };
-    run_file(alloc, file, files, sink)
+    run_file(alloc, &words, files, sink)
 }
 
 // Carries the definitions of the named file out and writes the text.
-fn run_file<F: Files, K: Sink>(alloc: Global, file: &str, files: &mut F, sink: &mut K) -> u8
+fn run_file<F: Files, K: Sink>(alloc: Global, words: &Words<'_>, files: &mut F, sink: &mut K) -> u8
     requires files { F.faults files.old < 2 ^ 64 - 1 }
     requires sink { K.faults sink.old < 2 ^ 64 - 1 }
-    ensures accepted { result ≡ 0 → Writes (Some file.now) (F.held files.old) (K.written sink.old) (K.written sink.new) false }
-    ensures refused { result ≡ 1 → Writes (Some file.now) (F.held files.old) (K.written sink.old) (K.written sink.new) true }
+    ensures accepted { result ≡ 0 → Writes (Some (words.now.full, words.now.file.now)) (F.held files.old) (K.written sink.old) (K.written sink.new) false }
+    ensures refused { result ≡ 1 → Writes (Some (words.now.full, words.now.file.now)) (F.held files.old) (K.written sink.old) (K.written sink.new) true }
     ensures quiet { result < 3 → (F.faults files.new ≡ F.faults files.old) × (K.faults sink.new ≡ K.faults sink.old) }
     ensures formed { result ≢ 2 }
     ensures files_fault { result ≡ 3 → (F.faults files.old < F.faults files.new) × (sink.new ≡ sink.old) }
     ensures sink_fault { result ≡ 4 → (K.faults sink.old < K.faults sink.new)
-        × WritesPart (Some file.now) (F.held files.old) (K.written sink.old) (K.written sink.new) }
+        × WritesPart (Some (words.now.full, words.now.file.now)) (F.held files.old) (K.written sink.old) (K.written sink.new) }
     ensures memory { result ≡ 5 → sink.new ≡ sink.old }
     ensures complete { F.faults files.new ≡ F.faults files.old → K.faults sink.new ≡ K.faults sink.old → (result < 3) ⊎ (result ≡ 5) }
     ensures range { result ≤ 5 }
 {
-    match report_of(alloc, files, file) {
+    match report_of(alloc, files, words) {
         Ok(report) => finish(sink, &report.text, if report.refused { 1 } else { 0 }),
         Err(ReportFault::Failed) => 3,
         Err(ReportFault::NoMemory) => 5,

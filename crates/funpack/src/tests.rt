@@ -82,6 +82,25 @@ fn accepted_files(rt: HostRuntime) -> Result<(), Fail> {
     Ok(())
 }
 
+// The short form, where the words don't ask for the full one.
+#[test]
+fn short_lines(rt: HostRuntime) -> Result<(), Fail> {
+    try_row(
+        &rt,
+        rt.alloc(),
+        Row {
+            words: &["run", "a.hol"],
+            bytes: TT,
+            file_call: 0,
+            sink_call: 0,
+            room: 1000,
+            status: 0,
+            written: b"definition tt_def: |- tt = (%a. a)\n",
+        },
+    )?;
+    Ok(())
+}
+
 #[test]
 fn refused_definitions(rt: HostRuntime) -> Result<(), Fail> {
     let alloc = rt.alloc();
@@ -292,7 +311,7 @@ fn malformed_words(rt: HostRuntime) -> Result<(), Fail> {
         &[],
         &["run"],
         &["run", "--full"],
-        &["run", "a.hol"],
+        &["run", ""],
         &["run", "--full", "--full"],
         &["run", "--full", ""],
         &["run", "--full", "a.hol", "b.hol"],
