@@ -1,6 +1,6 @@
 // Definitions and theorems.
-use crate::terms::{has_text, name, term};
-use fp_full::print_full;
+use crate::full::states;
+use crate::terms::{has_text, is_named, name, term};
 use fp_kernel::{DefFault, Defs, Thm};
 use fp_term::Name;
 use std::alloc::{AllocError, Global};
@@ -12,92 +12,178 @@ fn define(alloc: Global, defs: &mut Defs, constant: &str, body: &str) -> Result<
     defs.define(alloc, &constant, &body)
 }
 
-#[test]
-fn a_definition_is_a_theorem(rt: HostRuntime) -> Result<(), Fail> {
-    let alloc = rt.alloc();
-    let mut defs = Defs::new(alloc)?;
-    let theorem = define(alloc, &mut defs, "c", "(l 'a (b 0))").map_err(|_| AllocError)?;
-    let equation =
-        "(a (a (c eq (fun (fun 'a 'a) (fun (fun 'a 'a) (bool)))) (c c (fun 'a 'a))) (l 'a (b 0)))";
-    assert!(rt; has_text(alloc, theorem.concl(), equation)?);
-    assert_eq!(rt; theorem.hyps().len(), 0);
-    assert_eq!(rt; theorem.promises().len(), 0);
-    assert_eq!(rt; theorem.level(), 1);
-    assert_eq!(rt; defs.level(), 1);
-    let text = print_full(alloc, &theorem.statement(alloc)?)?;
-    let statement = format!(in alloc; "(s (h) {equation})")?;
-    assert_eq!(rt; text.as_slice(), statement.as_bytes());
-    Ok(())
+// `c = (%x. x)`
+const CONCLUSION: &str =
+    "(a (a (c eq (fun (fun 'a 'a) (fun (fun 'a 'a) (bool)))) (c c (fun 'a 'a))) (l 'a (b 0)))";
+
+const STATEMENT: &str =
+    "(s (h) (a (a (c eq (fun (fun 'a 'a) (fun (fun 'a 'a) (bool)))) (c c (fun 'a 'a))) (l 'a (b 0))))";
+
+fn is_stated(alloc: Global, theorem: &Thm) -> Result<bool, AllocError> {
+    let statement = theorem.statement(alloc)?;
+    states(alloc, &statement, STATEMENT)
 }
 
-fn is_fault(fault: Option<DefFault>, kind: &str, named: &str) -> bool {
-    match fault {
-        Some(DefFault::NameTaken(name)) => kind == "NameTaken" && is_text(&name, named),
-        Some(DefFault::UnknownName(name)) => kind == "UnknownName" && is_text(&name, named),
-        Some(DefFault::IllTyped(_place)) => kind == "IllTyped",
-        Some(DefFault::NotClosed(name)) => kind == "NotClosed" && is_text(&name, named),
-        Some(DefFault::HiddenType(name)) => kind == "HiddenType" && is_text(&name, named),
-        Some(DefFault::NoMemory) => false,
-        None => kind == "none",
+// A theorem on the first definition alone.
+fn is_first(theorem: &Thm) -> bool {
+    theorem.hyps().len() == 0 && theorem.promises().len() == 0 && theorem.level() == 1
+}
+
+fn is_equation(alloc: Global, theorem: &Thm) -> Result<bool, AllocError> {
+    Ok(
+        is_first(theorem)
+            && has_text(alloc, theorem.concl(), CONCLUSION)?
+            && is_stated(alloc, theorem)?,
+    )
+}
+
+fn is_theorem(alloc: Global, defs: &mut Defs) -> Result<bool, AllocError> {
+    match define(alloc, defs, "c", "(l 'a (b 0))") {
+        Ok(theorem) => is_equation(alloc, &theorem),
+        Err(_) => Err(AllocError),
     }
 }
 
-fn is_text(name: &Name, text: &str) -> bool {
-    name.as_slice() == text.as_bytes()
+#[test]
+fn a_definition_is_a_theorem(rt: HostRuntime) -> Result<(), Fail> {
+    let mut defs = Defs::new(rt.alloc())?;
+    assert!(rt; is_theorem(rt.alloc(), &mut defs) == Ok(true));
+    assert!(rt; defs.level() == 1);
+    Ok(())
+}
+
+fn kind_of(fault: &DefFault) -> &'static str {
+    match fault {
+        DefFault::NameTaken(_) => "NameTaken",
+        DefFault::UnknownName(_) => "UnknownName",
+        DefFault::IllTyped(_) => "IllTyped",
+        DefFault::NotClosed(_) => "NotClosed",
+        DefFault::HiddenType(_) => "HiddenType",
+        DefFault::NoMemory => "NoMemory",
+    }
+}
+
+fn name_in(fault: &DefFault) -> Option<&Name> {
+    match fault {
+        DefFault::NameTaken(name) => Some(name),
+        DefFault::UnknownName(name) => Some(name),
+        DefFault::IllTyped(_) => None,
+        DefFault::NotClosed(name) => Some(name),
+        DefFault::HiddenType(name) => Some(name),
+        DefFault::NoMemory => None,
+    }
+}
+
+// A definition that is refused, the kind of the fault, and the name in it, if there is one.
+struct Refusal {
+    constant: &'static str,
+    body: &'static str,
+    kind: &'static str,
+    named: &'static str,
+}
+
+const REFUSALS: &[Refusal] = &[
+    Refusal {
+        constant: "eq",
+        body: "(c T (bool))",
+        kind: "NameTaken",
+        named: "eq",
+    },
+    Refusal {
+        constant: "c",
+        body: "(a (b 0) (c new (bool)))",
+        kind: "UnknownName",
+        named: "new",
+    },
+    Refusal {
+        constant: "c",
+        body: "(a (b 0) (v x (bool)))",
+        kind: "IllTyped",
+        named: "",
+    },
+    Refusal {
+        constant: "c",
+        body: "(l (bool) (v x (bool)))",
+        kind: "NotClosed",
+        named: "x",
+    },
+    Refusal {
+        constant: "c",
+        body: "(a (l (fun 'a 'a) (c T (bool))) (l 'a (b 0)))",
+        kind: "HiddenType",
+        named: "a",
+    },
+    Refusal {
+        constant: "c",
+        body: "(c c (bool))",
+        kind: "UnknownName",
+        named: "c",
+    },
+];
+
+fn is_fault(fault: &DefFault, row: &Refusal) -> bool {
+    kind_of(fault) == row.kind && is_named(name_in(fault), row.named)
+}
+
+fn is_refused(alloc: Global, defs: &mut Defs, row: &Refusal) -> bool {
+    match define(alloc, defs, row.constant, row.body) {
+        Ok(_) => false,
+        Err(fault) => is_fault(&fault, row),
+    }
+}
+
+fn is_defined(alloc: Global, defs: &mut Defs, constant: &str) -> bool {
+    define(alloc, defs, constant, "(c T (bool))").is_ok()
 }
 
 // After a refusal the list is as before.
 #[test]
 fn refusals(rt: HostRuntime) -> Result<(), Fail> {
-    let alloc = rt.alloc();
-    let rows = [
-        ("eq", "(c T (bool))", "NameTaken", "eq"),
-        ("c", "(a (b 0) (c new (bool)))", "UnknownName", "new"),
-        ("c", "(a (b 0) (v x (bool)))", "IllTyped", ""),
-        ("c", "(l (bool) (v x (bool)))", "NotClosed", "x"),
-        (
-            "c",
-            "(a (l (fun 'a 'a) (c T (bool))) (l 'a (b 0)))",
-            "HiddenType",
-            "a",
-        ),
-        ("c", "(c c (bool))", "UnknownName", "c"),
-        ("c", "(c T (bool))", "none", ""),
-    ];
-    let mut defs = Defs::new(alloc)?;
-    for (constant, body, kind, named) in rows {
-        assert_eq!(rt; defs.level(), 0);
-        assert!(rt;
-            is_fault(define(alloc, &mut defs, constant, body).err(), kind, named),
-            "{body}"
-        );
+    let mut defs = Defs::new(rt.alloc())?;
+    for row in REFUSALS {
+        assert!(rt; is_refused(rt.alloc(), &mut defs, row), "{}", row.body);
+        assert!(rt; defs.level() == 0, "{}", row.body);
     }
+    assert!(rt; is_defined(rt.alloc(), &mut defs, "c"));
     Ok(())
+}
+
+const AGAIN: Refusal = Refusal {
+    constant: "c",
+    body: "(c F (bool))",
+    kind: "NameTaken",
+    named: "c",
+};
+
+fn is_longer(defs: &Defs) -> bool {
+    let signature = defs.signature();
+    defs.level() == 1
+        && signature.consts.as_slice().len() == 11
+        && signature.types.as_slice().len() == 3
 }
 
 #[test]
 fn a_name_is_defined_once(rt: HostRuntime) -> Result<(), Fail> {
-    let alloc = rt.alloc();
-    let mut defs = Defs::new(alloc)?;
-    assert!(rt; define(alloc, &mut defs, "c", "(c T (bool))").is_ok());
-    let again = define(alloc, &mut defs, "c", "(c F (bool))").err();
-    assert!(rt; is_fault(again, "NameTaken", "c"));
-    assert_eq!(rt; defs.level(), 1);
-    assert_eq!(rt; defs.signature().consts.as_slice().len(), 11);
-    assert_eq!(rt; defs.signature().types.as_slice().len(), 3);
+    let mut defs = Defs::new(rt.alloc())?;
+    assert!(rt; is_defined(rt.alloc(), &mut defs, "c"));
+    assert!(rt; is_refused(rt.alloc(), &mut defs, &AGAIN));
+    assert!(rt; is_longer(&defs));
     Ok(())
+}
+
+// Defines `c` with a number.
+fn is_numbered(alloc: Global, defs: &mut Defs, number: u32) -> Result<bool, AllocError> {
+    let constant = format!(in alloc; "c{number}")?;
+    Ok(is_defined(alloc, defs, constant.as_str()))
 }
 
 // So many definitions that no recursion over their list would fit the stack.
 #[test]
 fn a_long_list(rt: HostRuntime) -> Result<(), Fail> {
-    let alloc = rt.alloc();
-    let body = term(alloc, "(c T (bool))")?;
-    let mut defs = Defs::new(alloc)?;
+    let mut defs = Defs::new(rt.alloc())?;
     for number in 0..3000 {
-        let constant = name(alloc, format!(in alloc; "c{number}")?.as_str())?;
-        assert!(rt; defs.define(alloc, &constant, &body).is_ok());
+        assert!(rt; is_numbered(rt.alloc(), &mut defs, number) == Ok(true));
     }
-    assert_eq!(rt; defs.level(), 3000);
+    assert!(rt; defs.level() == 3000);
     Ok(())
 }

@@ -10,4 +10,6 @@ mod matching;
 #[cfg(test)]
 mod outside;
 #[cfg(test)]
+mod print;
+#[cfg(test)]
 mod terms;

@@ -4,61 +4,76 @@ use fp_full::print_full_term;
 use fp_match::{Inst, match_term};
 use fp_term::{Name, Term, Ty};
 use std::alloc::{AllocError, Global};
-use std::test::Fail;
+use std::process::Abort;
 
-// A pattern, a term, and the instance as `show` writes it, if there is one.
+// A pattern, a term, and the instance as it is shown, if there is one.
 type Row = (&'static str, &'static str, Option<&'static str>);
 
-// The name and the type as a variable.
-fn show_variable(alloc: Global, out: &mut Vec<u8>, name: &Name, ty: &Ty) -> Result<(), AllocError> {
-    let variable = Term::free(alloc, name.copy()?, ty.copy()?)?;
-    out.extend_from_slice(print_full_term(alloc, &variable)?.as_slice())
+fn show_term(
+    alloc: Global,
+    out: &mut Vec<u8>,
+    term: &Term,
+    after: &[u8],
+) -> Result<(), AllocError> {
+    out.extend_from_slice(print_full_term(alloc, term)?.as_slice())?;
+    out.extend_from_slice(after)
 }
 
-fn show_term(alloc: Global, out: &mut Vec<u8>, term: &Term) -> Result<(), AllocError> {
-    out.extend_from_slice(b" = ")?;
-    out.extend_from_slice(print_full_term(alloc, term)?.as_slice())
+fn variable(alloc: Global, name: &Name, ty: &Ty) -> Result<Term, AllocError> {
+    let name = name.copy()?;
+    Term::free(alloc, name, ty.copy()?)
+}
+
+fn show_types(alloc: Global, out: &mut Vec<u8>, pairs: &[(Name, Ty)]) -> Result<(), AllocError> {
+    for pair in pairs {
+        show_term(alloc, out, &variable(alloc, &pair.0, &pair.1)?, b";")?;
+    }
+    Ok(())
+}
+
+fn show_terms(
+    alloc: Global,
+    out: &mut Vec<u8>,
+    pairs: &[(Name, Ty, Term)],
+) -> Result<(), AllocError> {
+    for pair in pairs {
+        show_term(alloc, out, &variable(alloc, &pair.0, &pair.1)?, b" = ")?;
+        show_term(alloc, out, &pair.2, b";")?;
+    }
+    Ok(())
 }
 
 // Each type variable as a variable of its type, and then each variable with its term.
-fn show(alloc: Global, inst: &Inst) -> Result<Vec<u8>, AllocError> {
+fn is_shown(alloc: Global, inst: &Inst, text: &str) -> Result<bool, AllocError> {
     let mut out = Vec::new(alloc);
-    for pair in inst.types.as_slice() {
-        show_variable(alloc, &mut out, &pair.0, &pair.1)?;
-        out.push(b';')?;
-    }
-    for pair in inst.terms.as_slice() {
-        show_variable(alloc, &mut out, &pair.0, &pair.1)?;
-        show_term(alloc, &mut out, &pair.2)?;
-        out.push(b';')?;
-    }
-    Ok(out)
+    show_types(alloc, &mut out, inst.types.as_slice())?;
+    show_terms(alloc, &mut out, inst.terms.as_slice())?;
+    Ok(out.as_slice() == text.as_bytes())
+}
+
+fn copy_is_shown(alloc: Global, inst: &Inst, text: &str) -> Result<bool, AllocError> {
+    let copy = inst.copy(alloc)?;
+    is_shown(alloc, &copy, text)
+}
+
+fn are_shown(alloc: Global, inst: &Inst, text: &str) -> Result<bool, AllocError> {
+    Ok(is_shown(alloc, inst, text)? && copy_is_shown(alloc, inst, text)?)
 }
 
 fn found(alloc: Global, pattern: &str, text: &str) -> Result<Option<Inst>, AllocError> {
-    match_term(alloc, &term(alloc, pattern)?, &term(alloc, text)?)
+    let pattern = term(alloc, pattern)?;
+    match_term(alloc, &pattern, &term(alloc, text)?)
 }
 
-// A copy shows what the instance does.
-fn is_shown(alloc: Global, inst: &Inst, text: &str) -> Result<bool, AllocError> {
-    let copy = inst.copy(alloc)?;
-    Ok(
-        show(alloc, inst)?.as_slice() == text.as_bytes()
-            && show(alloc, &copy)?.as_slice() == text.as_bytes(),
-    )
-}
-
-fn is_row(alloc: Global, (pattern, text, shown): Row) -> Result<bool, AllocError> {
-    match found(alloc, pattern, text)? {
-        Some(inst) => match shown {
-            Some(shown) => is_shown(alloc, &inst, shown),
-            None => Ok(false),
-        },
-        None => Ok(shown.is_none()),
+fn is_row(alloc: Global, row: &Row) -> Result<bool, AllocError> {
+    match (found(alloc, row.0, row.1)?, row.2) {
+        (Some(inst), Some(shown)) => are_shown(alloc, &inst, shown),
+        (Some(_), None) => Ok(false),
+        (None, shown) => Ok(shown.is_none()),
     }
 }
 
-static LEAVES: [Row; 12] = [
+const LEAVES: &[Row] = &[
     (
         "(v x 'a)",
         "(v x 'a)",
@@ -86,7 +101,7 @@ static LEAVES: [Row; 12] = [
 ];
 
 // Variables that stand twice.
-static APPLICATIONS: [Row; 9] = [
+const APPLICATIONS: &[Row] = &[
     (
         "(a (v f (fun 'a 'b)) (v x 'a))",
         "(a (v g (fun 'c 'd)) (a (v h (fun 'e 'c)) (v y 'e)))",
@@ -133,7 +148,7 @@ static APPLICATIONS: [Row; 9] = [
 ];
 
 // Type variables that stand twice, and variables of one name at two types.
-static TYPES: [Row; 10] = [
+const TYPES: &[Row] = &[
     (
         "(c i (fun 'a 'a))",
         "(c i (fun (bool) (bool)))",
@@ -177,7 +192,7 @@ static TYPES: [Row; 10] = [
 ];
 
 // A variable under a binder takes no term with its number.
-static BINDERS: [Row; 10] = [
+const BINDERS: &[Row] = &[
     ("(l 'a (b 0))", "(l (bool) (b 0))", Some("(v a (bool));")),
     ("(l (bool) (b 0))", "(l (ind) (b 0))", None),
     ("(l 'a (l 'a (b 1)))", "(l (ind) (l (bool) (b 1)))", None),
@@ -214,34 +229,28 @@ static BINDERS: [Row; 10] = [
     ),
 ];
 
-#[test]
-fn leaves(rt: HostRuntime) -> Result<(), Fail> {
-    for row in LEAVES {
-        assert!(rt; is_row(rt.alloc(), row)?, "{row:?}");
+fn try_rows(rt: &impl Abort, alloc: Global, rows: &[Row]) {
+    for row in rows {
+        assert!(rt; is_row(alloc, row) == Ok(true), "{row:?}");
     }
-    Ok(())
 }
 
 #[test]
-fn applications(rt: HostRuntime) -> Result<(), Fail> {
-    for row in APPLICATIONS {
-        assert!(rt; is_row(rt.alloc(), row)?, "{row:?}");
-    }
-    Ok(())
+fn leaves(rt: HostRuntime) {
+    try_rows(&rt, rt.alloc(), LEAVES);
 }
 
 #[test]
-fn types_of_a_pattern(rt: HostRuntime) -> Result<(), Fail> {
-    for row in TYPES {
-        assert!(rt; is_row(rt.alloc(), row)?, "{row:?}");
-    }
-    Ok(())
+fn applications(rt: HostRuntime) {
+    try_rows(&rt, rt.alloc(), APPLICATIONS);
 }
 
 #[test]
-fn binders(rt: HostRuntime) -> Result<(), Fail> {
-    for row in BINDERS {
-        assert!(rt; is_row(rt.alloc(), row)?, "{row:?}");
-    }
-    Ok(())
+fn types_of_a_pattern(rt: HostRuntime) {
+    try_rows(&rt, rt.alloc(), TYPES);
+}
+
+#[test]
+fn binders(rt: HostRuntime) {
+    try_rows(&rt, rt.alloc(), BINDERS);
 }
