@@ -2,70 +2,11 @@
 ghost use Rattle.std.specs.Prelude.{IfOk};
 ghost use Rattle.fp_kernel.specs.Definitions.{Within};
 
-use crate::over;
-use fp_full::{print_full, print_full_term, read_full_term};
 use fp_kernel::{Defs, RuleFault, Thm};
 use fp_term::{Name, Node, Term, Ty};
+use fp_texts::{Premise, given, made, name, same, same_text, term, text_of};
 use std::alloc::{AllocError, Global};
 use std::process::Abort;
-
-// What a mark stands for in the texts of these tests.
-fn spelled(mark: u8) -> Option<&'static [u8]> {
-    match mark {
-        b'?' => Some(b"(bool)"),
-        b'=' => Some(b"(c eq (fun 'a (fun 'a (bool))))"),
-        b'~' => Some(b"(c eq (fun (bool) (fun (bool) (bool))))"),
-        b'&' => Some(b"(c and (fun (bool) (fun (bool) (bool))))"),
-        b'>' => Some(b"(c imp (fun (bool) (fun (bool) (bool))))"),
-        _ => None,
-    }
-}
-
-/// The full form of a text with marks.
-pub fn full(alloc: Global, text: &str) -> Result<Vec<u8>, AllocError> {
-    let mut bytes = Vec::new(alloc);
-    for byte in text.as_bytes() {
-        match spelled(*byte) {
-            Some(meaning) => bytes.extend_from_slice(meaning)?,
-            None => bytes.push(*byte)?,
-        }
-    }
-    Ok(bytes)
-}
-
-/// The term of a text.
-pub fn term(alloc: Global, text: &str) -> Result<Term, AllocError> {
-    let bytes = full(alloc, text)?;
-    if bytes.len() > 10000 {
-        return Err(AllocError);
-    }
-    read_full_term(alloc, bytes.as_slice()).map_err(|_| AllocError)
-}
-
-/// The theorem of a rule that has to give one.
-pub fn sure(answer: Result<Thm, RuleFault>) -> Result<Thm, AllocError> {
-    match answer {
-        Ok(theorem) => Ok(theorem),
-        Err(_fault) => Err(AllocError),
-    }
-}
-
-pub fn name(alloc: Global, text: &str) -> Result<Name, AllocError> {
-    Name::new(alloc, text.as_bytes())?.ok_or(AllocError)
-}
-
-/// A theorem to begin with.
-#[derive(Clone, Copy)]
-pub enum Premise<'a> {
-    /// `t = t`.
-    Same(&'a str),
-    /// A formula from itself.
-    Given(&'a str),
-    /// `s = u` from itself as `s = t` and `t = u`.
-    Joined(&'a str, &'a str),
-    /// `p = q` from `p` and `q`.
-    Alike(&'a str, &'a str),
-}
 
 /// A rule, and what it is called on.
 #[derive(Clone, Copy)]
@@ -84,56 +25,16 @@ pub enum Call<'a> {
     Connective(u32),
 }
 
-fn same(alloc: Global, defs: &Defs, text: &str) -> Result<Thm, RuleFault>
-    ensures { IfOk result (λ th. Within th.defs defs.now) }
-{
-    over::refl(alloc, defs, &term(alloc, text)?)
-}
-
-/// The formula of a text, from itself.
-pub fn given(alloc: Global, defs: &Defs, text: &str) -> Result<Thm, RuleFault>
-    ensures { IfOk result (λ th. Within th.defs defs.now) }
-{
-    over::assume(alloc, defs, &term(alloc, text)?)
-}
-
-fn joined(alloc: Global, defs: &Defs, first: &str, second: &str) -> Result<Thm, RuleFault>
-    ensures { IfOk result (λ th. Within th.defs defs.now) }
-{
-    let first = given(alloc, defs, first)?;
-    let second = given(alloc, defs, second)?;
-    over::trans(alloc, defs, &first, &second)
-}
-
-fn alike(alloc: Global, defs: &Defs, first: &str, second: &str) -> Result<Thm, RuleFault>
-    ensures { IfOk result (λ th. Within th.defs defs.now) }
-{
-    let first = given(alloc, defs, first)?;
-    let second = given(alloc, defs, second)?;
-    over::antisym(alloc, defs, &first, &second)
-}
-
-pub fn made(alloc: Global, defs: &Defs, premise: Premise<'_>) -> Result<Thm, RuleFault>
-    ensures { IfOk result (λ th. Within th.defs defs.now) }
-{
-    match premise {
-        Premise::Same(text) => same(alloc, defs, text),
-        Premise::Given(text) => given(alloc, defs, text),
-        Premise::Joined(first, second) => joined(alloc, defs, first, second),
-        Premise::Alike(first, second) => alike(alloc, defs, first, second),
-    }
-}
-
-fn both(
+fn trans_with(
     alloc: Global,
     defs: &Defs,
-    first: Premise<'_>,
+    first: &Thm,
     second: Premise<'_>,
-) -> Result<(Thm, Thm), RuleFault>
-    ensures { IfOk result (λ p. Within p.0.defs defs.now × Within p.1.defs defs.now) }
+) -> Result<Thm, RuleFault>
+    requires { Within first.now.defs defs.now }
 {
-    let first = made(alloc, defs, first)?;
-    Ok((first, made(alloc, defs, second)?))
+    let second = made(alloc, defs, second)?;
+    defs.trans(alloc, first, &second)
 }
 
 fn trans(
@@ -142,8 +43,20 @@ fn trans(
     first: Premise<'_>,
     second: Premise<'_>,
 ) -> Result<Thm, RuleFault> {
-    let (first, second) = both(alloc, defs, first, second)?;
-    defs.trans(alloc, &first, &second)
+    let first = made(alloc, defs, first)?;
+    trans_with(alloc, defs, &first, second)
+}
+
+fn mk_comb_with(
+    alloc: Global,
+    defs: &Defs,
+    first: &Thm,
+    second: Premise<'_>,
+) -> Result<Thm, RuleFault>
+    requires { Within first.now.defs defs.now }
+{
+    let second = made(alloc, defs, second)?;
+    defs.mk_comb(alloc, first, &second)
 }
 
 fn mk_comb(
@@ -152,8 +65,20 @@ fn mk_comb(
     first: Premise<'_>,
     second: Premise<'_>,
 ) -> Result<Thm, RuleFault> {
-    let (first, second) = both(alloc, defs, first, second)?;
-    defs.mk_comb(alloc, &first, &second)
+    let first = made(alloc, defs, first)?;
+    mk_comb_with(alloc, defs, &first, second)
+}
+
+fn eq_mp_with(
+    alloc: Global,
+    defs: &Defs,
+    first: &Thm,
+    second: Premise<'_>,
+) -> Result<Thm, RuleFault>
+    requires { Within first.now.defs defs.now }
+{
+    let second = made(alloc, defs, second)?;
+    defs.eq_mp(alloc, first, &second)
 }
 
 fn eq_mp(
@@ -162,8 +87,20 @@ fn eq_mp(
     first: Premise<'_>,
     second: Premise<'_>,
 ) -> Result<Thm, RuleFault> {
-    let (first, second) = both(alloc, defs, first, second)?;
-    defs.eq_mp(alloc, &first, &second)
+    let first = made(alloc, defs, first)?;
+    eq_mp_with(alloc, defs, &first, second)
+}
+
+fn antisym_with(
+    alloc: Global,
+    defs: &Defs,
+    first: &Thm,
+    second: Premise<'_>,
+) -> Result<Thm, RuleFault>
+    requires { Within first.now.defs defs.now }
+{
+    let second = made(alloc, defs, second)?;
+    defs.antisym(alloc, first, &second)
 }
 
 fn antisym(
@@ -172,42 +109,88 @@ fn antisym(
     first: Premise<'_>,
     second: Premise<'_>,
 ) -> Result<Thm, RuleFault> {
-    let (first, second) = both(alloc, defs, first, second)?;
-    defs.antisym(alloc, &first, &second)
+    let first = made(alloc, defs, first)?;
+    antisym_with(alloc, defs, &first, second)
 }
 
-// The name and the type of a variable.
-fn variable(alloc: Global, text: &str) -> Result<(Name, Ty), AllocError> {
-    let term = term(alloc, text)?;
-    match term.node() {
-        Node::Free { name, ty } => Ok((name.copy()?, ty.copy()?)),
-        _ => Err(AllocError),
+fn lam_over(alloc: Global, defs: &Defs, variable: &Term, premise: &Thm) -> Result<Thm, RuleFault>
+    requires { Within premise.now.defs defs.now }
+{
+    match variable.node() {
+        Node::Free { name, ty } => defs.lam(alloc, name, ty, premise),
+        _ => Err(RuleFault::NoMemory),
     }
+}
+
+fn lam_by(alloc: Global, defs: &Defs, text: &str, premise: &Thm) -> Result<Thm, RuleFault>
+    requires { Within premise.now.defs defs.now }
+{
+    let variable = term(alloc, text)?;
+    lam_over(alloc, defs, &variable, premise)
 }
 
 fn lam(alloc: Global, defs: &Defs, text: &str, premise: Premise<'_>) -> Result<Thm, RuleFault> {
     let premise = made(alloc, defs, premise)?;
-    let (name, ty) = variable(alloc, text)?;
-    defs.lam(alloc, &name, &ty, &premise)
+    lam_by(alloc, defs, text, &premise)
+}
+
+fn beta(alloc: Global, defs: &Defs, text: &str) -> Result<Thm, RuleFault> {
+    let redex = term(alloc, text)?;
+    defs.beta(alloc, &redex)
+}
+
+// The name and the type of a variable, and the term for it.
+fn pair_of(variable: &Term, by: Term) -> Result<(Name, Ty, Term), AllocError> {
+    match variable.node() {
+        Node::Free { name, ty } => Ok((name.copy()?, ty.copy()?, by)),
+        _ => Err(AllocError),
+    }
+}
+
+fn term_for(alloc: Global, text: &str, by: &str) -> Result<(Name, Ty, Term), AllocError> {
+    let variable = term(alloc, text)?;
+    pair_of(&variable, term(alloc, by)?)
 }
 
 fn terms_for(alloc: Global, texts: &[(&str, &str)]) -> Result<Vec<(Name, Ty, Term)>, AllocError> {
     let mut pairs = Vec::new(alloc);
     for (text, by) in texts {
-        let (name, ty) = variable(alloc, text)?;
-        pairs.push((name, ty, term(alloc, by)?))?;
+        pairs.push(term_for(alloc, text, by)?)?;
     }
     Ok(pairs)
 }
 
-// A name and the type of a variable from each two texts.
+fn type_in(variable: &Term) -> Result<Ty, AllocError> {
+    match variable.node() {
+        Node::Free { ty, .. } => ty.copy(),
+        _ => Err(AllocError),
+    }
+}
+
+// The type of the variable of the second text for the type variable of the first.
+fn type_for(alloc: Global, text: &str, by: &str) -> Result<(Name, Ty), AllocError> {
+    let ty = type_in(&term(alloc, by)?)?;
+    Ok((name(alloc, text)?, ty))
+}
+
 fn types_for(alloc: Global, texts: &[(&str, &str)]) -> Result<Vec<(Name, Ty)>, AllocError> {
     let mut pairs = Vec::new(alloc);
     for (text, by) in texts {
-        let (_name, ty) = variable(alloc, by)?;
-        pairs.push((name(alloc, text)?, ty))?;
+        pairs.push(type_for(alloc, text, by)?)?;
     }
     Ok(pairs)
+}
+
+fn inst_by(
+    alloc: Global,
+    defs: &Defs,
+    premise: &Thm,
+    texts: &[(&str, &str)],
+) -> Result<Thm, RuleFault>
+    requires { Within premise.now.defs defs.now }
+{
+    let pairs = terms_for(alloc, texts)?;
+    defs.inst(alloc, premise, &pairs)
 }
 
 fn inst(
@@ -217,8 +200,19 @@ fn inst(
     texts: &[(&str, &str)],
 ) -> Result<Thm, RuleFault> {
     let premise = made(alloc, defs, premise)?;
-    let pairs = terms_for(alloc, texts)?;
-    defs.inst(alloc, &premise, &pairs)
+    inst_by(alloc, defs, &premise, texts)
+}
+
+fn inst_ty_by(
+    alloc: Global,
+    defs: &Defs,
+    premise: &Thm,
+    texts: &[(&str, &str)],
+) -> Result<Thm, RuleFault>
+    requires { Within premise.now.defs defs.now }
+{
+    let pairs = types_for(alloc, texts)?;
+    defs.inst_ty(alloc, premise, &pairs)
 }
 
 fn inst_ty(
@@ -228,8 +222,7 @@ fn inst_ty(
     texts: &[(&str, &str)],
 ) -> Result<Thm, RuleFault> {
     let premise = made(alloc, defs, premise)?;
-    let pairs = types_for(alloc, texts)?;
-    defs.inst_ty(alloc, &premise, &pairs)
+    inst_ty_by(alloc, defs, &premise, texts)
 }
 
 fn axiom(alloc: Global, defs: &Defs, number: u32) -> Result<Thm, RuleFault> {
@@ -252,7 +245,7 @@ fn called(alloc: Global, defs: &Defs, call: Call<'_>) -> Result<Thm, RuleFault> 
         Call::Trans(first, second) => trans(alloc, defs, first, second),
         Call::MkComb(first, second) => mk_comb(alloc, defs, first, second),
         Call::Lam(text, premise) => lam(alloc, defs, text, premise),
-        Call::Beta(text) => defs.beta(alloc, &term(alloc, text)?),
+        Call::Beta(text) => beta(alloc, defs, text),
         Call::Assume(text) => given(alloc, defs, text),
         Call::EqMp(first, second) => eq_mp(alloc, defs, first, second),
         Call::Antisym(first, second) => antisym(alloc, defs, first, second),
@@ -263,40 +256,24 @@ fn called(alloc: Global, defs: &Defs, call: Call<'_>) -> Result<Thm, RuleFault> 
     }
 }
 
-fn named(alloc: Global, word: &[u8], name: &Name) -> Result<Vec<u8>, AllocError> {
-    let mut text = Vec::from_slice(alloc, word)?;
-    text.extend_from_slice(name.as_slice())?;
-    Ok(text)
+fn gives(alloc: Global, defs: &Defs, call: Call<'_>, text: &str) -> Result<bool, AllocError> {
+    let found = text_of(alloc, called(alloc, defs, call))?;
+    same_text(alloc, found.as_slice(), text)
 }
 
-fn differing(alloc: Global, first: &Term, second: &Term) -> Result<Vec<u8>, AllocError> {
-    let mut text = Vec::from_slice(alloc, b"Differ ")?;
-    text.extend_from_slice(print_full_term(alloc, first)?.as_slice())?;
-    text.push(b' ')?;
-    text.extend_from_slice(print_full_term(alloc, second)?.as_slice())?;
-    Ok(text)
-}
-
-// The fault with its arguments, but for a place.
-fn fault_text(alloc: Global, fault: &RuleFault) -> Result<Vec<u8>, AllocError> {
-    match fault {
-        RuleFault::UnknownName(name) => named(alloc, b"UnknownName ", name),
-        RuleFault::IllTyped(_place) => Vec::from_slice(alloc, b"IllTyped"),
-        RuleFault::NotEquation => Vec::from_slice(alloc, b"NotEquation"),
-        RuleFault::NotRedex => Vec::from_slice(alloc, b"NotRedex"),
-        RuleFault::NotBool => Vec::from_slice(alloc, b"NotBool"),
-        RuleFault::Differ(first, second) => differing(alloc, first, second),
-        RuleFault::FreeInHyps(name) => named(alloc, b"FreeInHyps ", name),
-        _ => Err(AllocError),
+// How many rows there are before the first whose call gives something else than its text says.
+fn rows_right(alloc: Global, defs: &Defs, rows: &[(Call<'_>, &str)]) -> Result<usize, AllocError> {
+    for (index, (call, text)) in rows.iter().enumerate() {
+        if !gives(alloc, defs, *call, text)? {
+            return Ok(index);
+        }
     }
+    Ok(rows.len())
 }
 
-// The statement, or the fault.
-fn text_of(alloc: Global, answer: &Result<Thm, RuleFault>) -> Result<Vec<u8>, AllocError> {
-    match answer {
-        Ok(theorem) => print_full(alloc, &theorem.statement(alloc)?),
-        Err(fault) => fault_text(alloc, fault),
-    }
+fn all_right(alloc: Global, rows: &[(Call<'_>, &str)]) -> Result<usize, AllocError> {
+    let defs = Defs::new(alloc)?;
+    rows_right(alloc, &defs, rows)
 }
 
 /// Each call gives what its text says.
@@ -305,10 +282,7 @@ pub fn try_all(
     alloc: Global,
     rows: &[(Call<'_>, &str)],
 ) -> Result<(), AllocError> {
-    let defs = Defs::new(alloc)?;
-    for (call, text) in rows {
-        let found = text_of(alloc, &called(alloc, &defs, *call))?;
-        assert_eq!(rt; found.as_slice(), full(alloc, text)?.as_slice());
-    }
+    let right = all_right(alloc, rows)?;
+    assert_eq!(rt; right, rows.len());
     Ok(())
 }

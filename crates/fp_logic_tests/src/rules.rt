@@ -1,5 +1,6 @@
 // What each rule gives and refuses, and the axioms and the connectives' definitions.
-use crate::calls::{Call, Premise, try_all};
+use crate::calls::{Call, try_all};
+use fp_texts::Premise;
 use std::test::Fail;
 
 // The first unknown name of what is passed, before all other faults.
@@ -47,7 +48,10 @@ fn unknown_names(rt: HostRuntime) -> Result<(), Fail> {
 
 // Ill-typed terms, and results that would be.
 const ILL_TYPED: &[(Call<'static>, &str)] = &[
-    (Call::Refl("(a (c T ?) (a (v x 'a) (v y 'a)))"), "IllTyped"),
+    (
+        Call::Refl("(a (c T ?) (a (v x 'a) (v y 'a)))"),
+        "IllTyped 1",
+    ),
     (Call::Beta("(a (l 'a (b 0)) (c T ?))"), "IllTyped"),
     (Call::Assume("(b 0)"), "IllTyped"),
     (

@@ -1,8 +1,0 @@
-use Rattle.std.specs.Prelude.{[]}
-use Rattle.fp_conclude.specs.Outcomes.{gives}
-use Rattle.fp_kernel.specs.Start.{connective_numbered}
-use Rattle.fp_logic_tests.proofs.Listed.{answered}
-use Rattle.fp_logic_tests.proofs.over.connective.Goals as goal
-
-pub returns : goal.returns
-returns c = answered c.args.defs.now [] [] (gives (connective_numbered c.args.number)) c.connective.result c.connective.ensures

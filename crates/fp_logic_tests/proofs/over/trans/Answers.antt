@@ -1,8 +1,0 @@
-use Rattle.fp_conclude.specs.Hypotheses.{union}
-use Rattle.fp_conclude.specs.Rules.{trans_of}
-use Rattle.fp_kernel.specs.Theorems.{promise_union}
-use Rattle.fp_logic_tests.proofs.Listed.{answered}
-use Rattle.fp_logic_tests.proofs.over.trans.Goals as goal
-
-pub returns : goal.returns
-returns c = answered c.args.defs.now (promise_union c.args.first.now.promises c.args.second.now.promises) (union c.args.first.now.hyps c.args.second.now.hyps) (trans_of c.args.first.now.concl c.args.second.now.concl) c.trans.result c.trans.ensures
