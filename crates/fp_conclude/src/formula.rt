@@ -116,7 +116,8 @@ pub fn quantifier(alloc: Global, name: &[u8], ty: &Ty) -> Result<Term, AllocErro
     requires { IsTrue (is_name name.now) }
     ensures { IfOk result (λ t. t ≡ quantifier name.now ty.now) }
 {
-    Term::constant(alloc, Name::of(alloc, name)?, quantifier_type(alloc, ty)?)
+    let ty = quantifier_type(alloc, ty)?;
+    Term::constant(alloc, Name::of(alloc, name)?, ty)
 }
 
 /// The abstraction over a type.

@@ -22,12 +22,25 @@ use std::alloc::{AllocError, Global};
 use std::marker::Model;
 
 /// A conservative list of definitions, on which theorems are derived.
-#[derive(Drop)]
 pub struct Defs {
     list: Definitions,
     level: u32,
     signature: Signature,
     kept: Kept,
+}
+
+impl Drop for Defs {
+    fn drop(self) {
+        let Defs {
+            list,
+            level: _,
+            signature,
+            kept,
+        } = self;
+        drop(list);
+        drop(signature);
+        drop(kept);
+    }
 }
 
 impl Model for Defs {

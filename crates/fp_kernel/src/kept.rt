@@ -11,9 +11,15 @@ use std::sync::Arc;
 const ROOM: usize = 64;
 
 /// Places for theorems that are derived once and used again. What is put into one stays there.
-#[derive(Drop)]
 pub struct Kept {
     places: Arc<Vec<OnceBox<Thm>>>,
+}
+
+impl Drop for Kept {
+    fn drop(self) {
+        let Kept { places } = self;
+        drop(places);
+    }
 }
 
 // Does it state just that, over no definitions, without hypotheses and promises?

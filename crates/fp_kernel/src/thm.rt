@@ -11,13 +11,28 @@ use std::alloc::{AllocError, Global};
 use std::marker::Model;
 
 /// A theorem: what the hypotheses and the promises give by the definitions. It keeps its list of definitions.
-#[derive(Drop)]
 pub struct Thm {
     defs: Definitions,
     level: u32,
     promises: Items<(u32, Term)>,
     hyps: Items<Term>,
     concl: Term,
+}
+
+impl Drop for Thm {
+    fn drop(self) {
+        let Thm {
+            defs,
+            level: _,
+            promises,
+            hyps,
+            concl,
+        } = self;
+        drop(defs);
+        drop(promises);
+        drop(hyps);
+        drop(concl);
+    }
 }
 
 impl Model for Thm {

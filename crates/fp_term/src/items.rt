@@ -4,9 +4,15 @@ use std::alloc::{AllocError, Global};
 use std::marker::Model;
 
 /// Values in order, which contracts see as a list.
-#[derive(Drop)]
 pub struct Items<T> {
     items: Vec<T>,
+}
+
+impl<T: Drop> Drop for Items<T> {
+    fn drop(self) {
+        let Items { items } = self;
+        drop(items);
+    }
 }
 
 impl<T> Model for Items<T> {

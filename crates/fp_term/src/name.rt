@@ -8,9 +8,15 @@ use std::marker::Model;
 use std::sync::Arc;
 
 /// A text of 1 to 160 bytes: a letter or `_`, then letters, digits, `_` and `'`. A copy shares the text.
-#[derive(Drop)]
 pub struct Name {
     bytes: Arc<Vec<u8>>,
+}
+
+impl Drop for Name {
+    fn drop(self) {
+        let Name { bytes } = self;
+        drop(bytes);
+    }
 }
 
 impl Model for Name {

@@ -10,9 +10,16 @@ use std::sync::Arc;
 
 /// A term. A copy shares its parts.
 #[cycle(term)]
-#[derive(Drop)]
 pub struct Term {
     cell: Arc<Cell>,
+}
+
+impl Drop for Term {
+    #[cycle(term_drop)]
+    fn drop(self) {
+        let Term { cell } = self;
+        drop(cell);
+    }
 }
 
 #[cycle(term)]
