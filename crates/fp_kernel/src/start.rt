@@ -1,6 +1,6 @@
-ghost use Rattle.std.specs.Prelude.{◌≡◌, [], ◌∷◌, ◌++◌, IfOk, IsTrue};
-ghost use Rattle.fp_term.specs.Names.{is_name, truth, function};
-ghost use Rattle.fp_conclude.specs.Logic.{alpha, predicate_type, binary_type, truth_type, select_type, quantifier_type};
+ghost use Rattle.std.specs.Prelude.{◌≡◌, [], ◌∷◌, ◌++◌, codes, IfOk, IsTrue};
+ghost use Rattle.fp_term.specs.Names.{is_name, equality, truth, function};
+ghost use Rattle.fp_conclude.specs.Logic.{alpha, predicate_type, binary_type, truth_type, equality_type, select_type, quantifier_type};
 ghost use Rattle.fp_kernel.specs.Start.{start_types, start_constants, start_truths, start_connectives, start_quantifiers};
 
 use fp_conclude::{
@@ -38,49 +38,69 @@ fn start_types(alloc: Global) -> Result<Items<(Name, u32)>, AllocError>
     Ok(types)
 }
 
+// Equality.
+fn add_equality(alloc: Global, consts: &mut Items<(Name, Ty)>) -> Result<(), AllocError>
+    ensures { IfOk result (λ _. consts.new ≡ consts.old ++ (equality, equality_type alpha) ∷ []) }
+{
+    let ty = equality_type(alloc, &alpha(alloc)?)?;
+    consts.push((equality_name(alloc)?, ty))
+}
+
+#[tactic(auto, unfolding(fp_term::specs::Names::is_name))]
+fn add_selection(alloc: Global, consts: &mut Items<(Name, Ty)>) -> Result<(), AllocError>
+    ensures { IfOk result (λ _. consts.new ≡ consts.old ++ (codes "select", select_type alpha) ∷ []) }
+{
+    let ty = select_type(alloc, &alpha(alloc)?)?;
+    add_constant(alloc, consts, b"select", ty)
+}
+
 // Equality, `select`, and the two truth values.
 #[tactic(auto, unfolding(fp_term::specs::Names::is_name))]
 fn add_truths(alloc: Global, consts: &mut Items<(Name, Ty)>) -> Result<(), AllocError>
     ensures { IfOk result (λ _. consts.new ≡ consts.old ++ start_truths) }
 {
-    consts.push((equality_name(alloc)?, equality_type(alloc, &alpha(alloc)?)?))?;
-    add_constant(
-        alloc,
-        consts,
-        b"select",
-        select_type(alloc, &alpha(alloc)?)?,
-    )?;
+    add_equality(alloc, consts)?;
+    add_selection(alloc, consts)?;
     add_constant(alloc, consts, b"T", truth_type(alloc)?)?;
     add_constant(alloc, consts, b"F", truth_type(alloc)?)
+}
+
+fn add_binary(alloc: Global, consts: &mut Items<(Name, Ty)>, name: &[u8]) -> Result<(), AllocError>
+    requires { IsTrue (is_name name.now) }
+    ensures { IfOk result (λ _. consts.new ≡ consts.old ++ (name.now, binary_type truth_type truth_type) ∷ []) }
+{
+    add_constant(alloc, consts, name, binary_truth(alloc)?)
 }
 
 #[tactic(auto, unfolding(fp_term::specs::Names::is_name))]
 fn add_connectives(alloc: Global, consts: &mut Items<(Name, Ty)>) -> Result<(), AllocError>
     ensures { IfOk result (λ _. consts.new ≡ consts.old ++ start_connectives) }
 {
-    add_constant(alloc, consts, b"and", binary_truth(alloc)?)?;
-    add_constant(alloc, consts, b"or", binary_truth(alloc)?)?;
-    add_constant(alloc, consts, b"imp", binary_truth(alloc)?)?;
+    add_binary(alloc, consts, b"and")?;
+    add_binary(alloc, consts, b"or")?;
+    add_binary(alloc, consts, b"imp")?;
     let negation = predicate_over(alloc, &truth_type(alloc)?)?;
     add_constant(alloc, consts, b"not", negation)
+}
+
+fn add_quantifier(
+    alloc: Global,
+    consts: &mut Items<(Name, Ty)>,
+    name: &[u8],
+) -> Result<(), AllocError>
+    requires { IsTrue (is_name name.now) }
+    ensures { IfOk result (λ _. consts.new ≡ consts.old ++ (name.now, quantifier_type alpha) ∷ []) }
+{
+    let ty = quantifier_type(alloc, &alpha(alloc)?)?;
+    add_constant(alloc, consts, name, ty)
 }
 
 #[tactic(auto, unfolding(fp_term::specs::Names::is_name))]
 fn add_quantifiers(alloc: Global, consts: &mut Items<(Name, Ty)>) -> Result<(), AllocError>
     ensures { IfOk result (λ _. consts.new ≡ consts.old ++ start_quantifiers) }
 {
-    add_constant(
-        alloc,
-        consts,
-        b"all",
-        quantifier_type(alloc, &alpha(alloc)?)?,
-    )?;
-    add_constant(
-        alloc,
-        consts,
-        b"ex",
-        quantifier_type(alloc, &alpha(alloc)?)?,
-    )
+    add_quantifier(alloc, consts, b"all")?;
+    add_quantifier(alloc, consts, b"ex")
 }
 
 fn start_constants(alloc: Global) -> Result<Items<(Name, Ty)>, AllocError>
