@@ -15,7 +15,7 @@ use Rattle.fp_conclude.specs.Parts.{equation}
 use Rattle.fp_conclude.specs.Checks.{typed_over}
 use Rattle.fp_conclude.proofs.Checked.{well_typed}
 use Rattle.fp_term.proofs.Equal.{term_eq-decides}
-use Rattle.fp_conv.specs.Rewriting.{rewrite_of}
+use Rattle.fp_conv.specs.Rewriting.{put_by, rewrite_of}
 use Rattle.fp_conclude.specs.Rules.{trans_of, lam_of}
 use Rattle.fp_conclude.proofs.Gives.{trans_gives}
 use Rattle.fp_conclude.proofs.Outcomes.{same_given}
@@ -54,16 +54,19 @@ pub found_typed : (g : Signature) (t : Tm) (s : Typ) → typed_over g t ≡ give
 found_typed g t s e = record { type = s; well = well_typed g t s e }
 
 -- what rewriting gives where nothing is refused
-pub rewriting_gives : (g : Signature) (place : List ℕ) (a t u : Tm) (s : Typ) (p : Typ × Tm × Tm) → typed_over g t ≡ gives s → equation a ≡ Some p → subterm_at place t ≡ Some u → u ≡ p.1 →
-    rewrite_of g place a t ≡ gives (equal s t (put_at place p.2 t))
-rewriting_gives g place a t u s p e f h same = rw (e, f, h, (term_eq-decides u p.1).1 same) refl
+pub put_gives : (place : List ℕ) (t u : Tm) (s : Typ) (p : Typ × Tm × Tm) → subterm_at place t ≡ Some u → u ≡ p.1 → put_by s t place p ≡ gives (equal s t (put_at place p.2 t))
+put_gives place t u s p h same = rw (h, (term_eq-decides u p.1).1 same) refl
 
-pub rewriting_stands : (defs : List Def) (a th : Theorem) (place : List ℕ) (t u : Tm) (s : Typ) (p : Typ × Tm × Tm) → typed_over (signature_of defs) t ≡ gives s → equation a.concl ≡ Some p → subterm_at place t ≡ Some u → u ≡ p.1 →
-    Equates defs a.promises a.hyps t (put_at place p.2 t) th → from_one defs a a.hyps (rewrite_of (signature_of defs) place a.concl t) ≡ gives th
-rewriting_stands defs a th place t u s p e f h same made =
+pub put_stands : (defs : List Def) (a th : Theorem) (place : List ℕ) (t u : Tm) (p : Typ × Tm × Tm) → subterm_at place t ≡ Some u → u ≡ p.1 →
+    Equates defs a.promises a.hyps t (put_at place p.2 t) th → (s : Typ) → typed_over (signature_of defs) t ≡ gives s → from_one defs a a.hyps (put_by s t place p) ≡ gives th
+put_stands defs a th place t u p h same made s e =
     let type_is = same_Some made.type s (sym made.typed.typed ∙ (well_typed (signature_of defs) t s e).typed) in
     let is = rw type_is at made.is in
-    ap (from_one defs a a.hyps) (rewriting_gives (signature_of defs) place a.concl t u s p e f h same) ∙ ap gives (sym is)
+    ap (from_one defs a a.hyps) (put_gives place t u s p h same) ∙ ap gives (sym is)
+
+-- the whole is that, where nothing is refused before
+pub put_is_rewrite : (g : Signature) (place : List ℕ) (a t : Tm) (s : Typ) (p : Typ × Tm × Tm) → typed_over g t ≡ gives s → equation a ≡ Some p → put_by s t place p ≡ rewrite_of g place a t
+put_is_rewrite g place a t s p e f = rw (e, f) refl
 
 -- the rest of a place in the argument of an application
 pub argument_there : (steps place : List ℕ) (step : ℕ) (t f x l : Tm) → steps ≡ step ∷ place → t ≡ app f x → (step ≡ 0 → ⊥) → subterm_at steps t ≡ Some l → subterm_at place x ≡ Some l

@@ -1,5 +1,5 @@
 -- Rewriting each outermost instance of an equation's left side, once.
-use Rattle.std.specs.Prelude.{◌≡◌, ℕ, Bool, true, false, ◌&&◌, ◌||◌, List, [], ◌∷◌, Some}
+use Rattle.std.specs.Prelude.{◌≡◌, ℕ, Bool, true, false, ◌&&◌, ◌||◌, List, [], ◌∷◌, Option, Some, MatchOption}
 use Rattle.fp_term.specs.Types.{Typ}
 use Rattle.fp_term.specs.Terms.{Tm, free, app, abs, term_eq, opened, closed, replaced, retyped_term}
 use Rattle.fp_term.specs.Variables.{is_among, free_names}
@@ -7,6 +7,7 @@ use Rattle.fp_match.specs.Instances.{IsInstanceBy, AreOwn}
 use Rattle.fp_conclude.specs.Hypotheses.{union}
 use Rattle.fp_conclude.specs.Outcomes.{Outcome, gives, with_part, not_equation}
 use Rattle.fp_conclude.specs.Parts.{equation}
+use Rattle.fp_conclude.specs.declared.parts.Equation.{Equation}
 use Rattle.fp_kernel.specs.Definitions.{Def}
 use Rattle.fp_kernel.specs.Theorems.{Theorem, promise_union}
 use Rattle.fp_conv.specs.Equations.{Equates}
@@ -60,6 +61,16 @@ pub record Rewriting (defs : List Def) (promises : List (ℕ × Tm)) (hyps : Lis
   pub result : Tm
   pub rewrites : Rewrites hyps left right t result
   pub equates : Equates defs promises hyps t result th
+
+-- by an equation with these sides the term stays as it is; the theorem says what it becomes; and one or the other
+abbrev pub Stays : Theorem → Equation → Tm → Type 0
+Stays eq sides t = Rewrites eq.hyps sides.left.now sides.right.now t t
+
+abbrev pub Becomes : List Def → Theorem → Equation → Tm → Theorem → Type 0
+Becomes defs eq sides t th = Rewriting defs eq.promises eq.hyps sides.left.now sides.right.now t th
+
+abbrev pub StaysOrBecomes : List Def → Theorem → Equation → Tm → Option Theorem → Type 0
+StaysOrBecomes defs eq sides t o = MatchOption o (Stays eq sides t) (Becomes defs eq sides t)
 
 -- the theorem has what the second's conclusion becomes by the first, with the first's hypotheses and promises and then what is new in the second's
 pub record Rewritten (defs : List Def) (a b th : Theorem) : Type 0 where

@@ -1,15 +1,17 @@
 ghost use Rattle.std.specs.Prelude.{◌≡◌, ◌||◌, false, Some, IfOk};
 ghost use Rattle.std.specs.Option.{option_copied};
+ghost use Rattle.fp_term.specs.Types.{Typ};
 ghost use Rattle.fp_term.specs.Terms.{free, abs, opened};
 ghost use Rattle.fp_conclude.specs.Logic.{equal};
 ghost use Rattle.fp_conclude.specs.Hypotheses.{occurs, occurs_in_any};
-ghost use Rattle.fp_conclude.specs.Outcomes.{FaultIs, Answers, refused, differ};
+ghost use Rattle.fp_conclude.specs.Checks.{typed_over};
+ghost use Rattle.fp_conclude.specs.Outcomes.{FaultIs, Answers, gives, refused, differ};
 ghost use Rattle.fp_kernel.specs.Definitions.{Within};
 ghost use Rattle.fp_kernel.specs.Start.{signature_of};
 ghost use Rattle.fp_kernel.specs.Theorems.{Theorem, from_one};
 ghost use Rattle.fp_conv.specs.Places.{subterm_at, put_at};
 ghost use Rattle.fp_conv.specs.Equations.{IsTyped, Equates};
-ghost use Rattle.fp_conv.specs.Rewriting.{rewrite_of};
+ghost use Rattle.fp_conv.specs.Rewriting.{put_by, rewrite_of};
 
 use crate::fresh::opening;
 use crate::steps::{abstracted, chained, reflexive, with_argument, with_function};
@@ -128,6 +130,30 @@ fn differ(left: &Term, right: &Term) -> RuleFault
     }
 }
 
+// What comes of the term where its subterm at the place is the left side, or why nothing comes of it.
+fn rewritten_at(
+    alloc: Global,
+    defs: &Defs,
+    place: &Place,
+    eq: &Thm,
+    sides: &Equation<'_>,
+    term: &Term,
+) -> Result<Thm, RuleFault>
+    requires within { Within eq.now.defs defs.now }
+    requires equation { eq.now.concl ≡ equal sides.now.ty.now sides.now.left.now sides.now.right.now }
+    requires typed { IsTyped (signature_of defs.now) term.now }
+    ensures { (s : Typ) → typed_over (signature_of defs.now) term.now ≡ gives s → Answers result (from_one defs.now eq.now eq.now.hyps (put_by s term.now place.now (sides.now.ty.now, sides.now.left.now, sides.now.right.now))) }
+{
+    let steps = place.steps(alloc)?;
+    let Some(part) = subterm_at(steps.as_slice(), term) else {
+        return Err(RuleFault::Shape);
+    };
+    if !same(part, sides.left) {
+        return Err(differ(part, sides.left));
+    }
+    Ok(rewritten(alloc, defs, steps.as_slice(), eq, sides, term, 0)?)
+}
+
 /// The term is equal to the one with the equation's right side in place of the subterm at the place, which has to be
 /// the equation's left side; with the equation's hypotheses and promises. In this order: a name of the term is
 /// unknown; the term is ill typed; the theorem isn't an equation; the term has no such place (`Shape`); the subterm
@@ -147,12 +173,5 @@ pub fn rewrite_at(
     let Some(sides) = sides(eq.concl()) else {
         return Err(RuleFault::NotEquation);
     };
-    let steps = place.steps(alloc)?;
-    let Some(part) = subterm_at(steps.as_slice(), term) else {
-        return Err(RuleFault::Shape);
-    };
-    if !same(part, sides.left) {
-        return Err(differ(part, sides.left));
-    }
-    Ok(rewritten(alloc, defs, steps.as_slice(), eq, &sides, term, 0)?)
+    rewritten_at(alloc, defs, place, eq, &sides, term)
 }

@@ -6,7 +6,7 @@ ghost use Rattle.fp_conclude.specs.Logic.{equal};
 ghost use Rattle.fp_kernel.specs.Definitions.{Within};
 ghost use Rattle.fp_kernel.specs.Start.{signature_of};
 ghost use Rattle.fp_conv.specs.Equations.{IsTyped, Equates};
-ghost use Rattle.fp_conv.specs.Outermost.{Instance, IsAllowed, Rewriting, keeps_all};
+ghost use Rattle.fp_conv.specs.Outermost.{Instance, IsAllowed, Becomes, keeps_all};
 
 use crate::steps::{replaced, retyped};
 use fp_conclude::Equation;
@@ -88,7 +88,7 @@ pub(crate) fn at_instance(
     requires within { Within eq.now.defs defs.now }
     requires equation { eq.now.concl ≡ equal sides.now.ty.now sides.now.left.now sides.now.right.now }
     requires typed { IsTyped (signature_of defs.now) term.now }
-    ensures { IfOk result (λ o. MatchOption o (Instance eq.now.hyps sides.now.left.now term.now → ⊥) (Rewriting defs.now eq.now.promises eq.now.hyps sides.now.left.now sides.now.right.now term.now)) }
+    ensures { IfOk result (λ o. MatchOption o (Instance eq.now.hyps sides.now.left.now term.now → ⊥) (Becomes defs.now eq.now sides.now term.now)) }
 {
     match instance(alloc, eq.hyps(), sides.left, term)? {
         Some(found) => Ok(Some(instantiated(alloc, defs, eq, sides, term, &found)?)),

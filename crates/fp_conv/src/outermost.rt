@@ -1,4 +1,4 @@
-ghost use Rattle.std.specs.Prelude.{◌≡◌, false, ◌∷◌, IfOk, IfErr, MatchOption};
+ghost use Rattle.std.specs.Prelude.{◌≡◌, false, ◌∷◌, IfOk, IfErr};
 ghost use Rattle.fp_term.specs.Terms.{free, app, abs, opened};
 ghost use Rattle.fp_conclude.specs.Logic.{truth_type, equal};
 ghost use Rattle.fp_conclude.specs.Hypotheses.{occurs_in_any};
@@ -7,7 +7,7 @@ ghost use Rattle.fp_kernel.specs.Definitions.{Within};
 ghost use Rattle.fp_kernel.specs.Derivability.{IsFormula};
 ghost use Rattle.fp_kernel.specs.Start.{signature_of};
 ghost use Rattle.fp_conv.specs.Equations.{IsTyped, Equates};
-ghost use Rattle.fp_conv.specs.Outermost.{Instance, Rewrites, Rewriting, Rewritten, Determined, is_used, sides_of};
+ghost use Rattle.fp_conv.specs.Outermost.{Instance, Rewritten, Determined, Stays, Becomes, StaysOrBecomes, is_used, sides_of};
 
 use crate::fresh::{unused, unused_opening};
 use crate::instances::at_instance;
@@ -32,9 +32,9 @@ fn function_applied(
 ) -> Result<Thm, AllocError>
     requires typed { IsTyped (signature_of defs.now) (app fun.now arg.now) }
     requires none { Instance eq.now.hyps sides.now.left.now (app fun.now arg.now) → ⊥ }
-    requires functions { Rewriting defs.now eq.now.promises eq.now.hyps sides.now.left.now sides.now.right.now fun.now functions.now }
-    requires arguments { MatchOption arguments.now (Rewrites eq.now.hyps sides.now.left.now sides.now.right.now arg.now arg.now) (Rewriting defs.now eq.now.promises eq.now.hyps sides.now.left.now sides.now.right.now arg.now) }
-    ensures { IfOk result (Rewriting defs.now eq.now.promises eq.now.hyps sides.now.left.now sides.now.right.now (app fun.now arg.now)) }
+    requires functions { Becomes defs.now eq.now sides.now fun.now functions.now }
+    requires arguments { StaysOrBecomes defs.now eq.now sides.now arg.now arguments.now }
+    ensures { IfOk result (Becomes defs.now eq.now sides.now (app fun.now arg.now)) }
 {
     match arguments {
         Some(made) => combined(alloc, defs, functions, made),
@@ -54,9 +54,9 @@ fn argument_applied(
 ) -> Result<Thm, AllocError>
     requires typed { IsTyped (signature_of defs.now) (app fun.now arg.now) }
     requires none { Instance eq.now.hyps sides.now.left.now (app fun.now arg.now) → ⊥ }
-    requires functions { Rewrites eq.now.hyps sides.now.left.now sides.now.right.now fun.now fun.now }
-    requires arguments { Rewriting defs.now eq.now.promises eq.now.hyps sides.now.left.now sides.now.right.now arg.now arguments.now }
-    ensures { IfOk result (Rewriting defs.now eq.now.promises eq.now.hyps sides.now.left.now sides.now.right.now (app fun.now arg.now)) }
+    requires functions { Stays eq.now sides.now fun.now }
+    requires arguments { Becomes defs.now eq.now sides.now arg.now arguments.now }
+    ensures { IfOk result (Becomes defs.now eq.now sides.now (app fun.now arg.now)) }
 {
     with_function(alloc, defs, fun, arg, arguments)
 }
@@ -74,9 +74,9 @@ fn applied(
 ) -> Result<Option<Thm>, AllocError>
     requires typed { IsTyped (signature_of defs.now) (app fun.now arg.now) }
     requires none { Instance eq.now.hyps sides.now.left.now (app fun.now arg.now) → ⊥ }
-    requires functions { MatchOption functions.now (Rewrites eq.now.hyps sides.now.left.now sides.now.right.now fun.now fun.now) (Rewriting defs.now eq.now.promises eq.now.hyps sides.now.left.now sides.now.right.now fun.now) }
-    requires arguments { MatchOption arguments.now (Rewrites eq.now.hyps sides.now.left.now sides.now.right.now arg.now arg.now) (Rewriting defs.now eq.now.promises eq.now.hyps sides.now.left.now sides.now.right.now arg.now) }
-    ensures { IfOk result (λ o. MatchOption o (Rewrites eq.now.hyps sides.now.left.now sides.now.right.now (app fun.now arg.now) (app fun.now arg.now)) (Rewriting defs.now eq.now.promises eq.now.hyps sides.now.left.now sides.now.right.now (app fun.now arg.now))) }
+    requires functions { StaysOrBecomes defs.now eq.now sides.now fun.now functions.now }
+    requires arguments { StaysOrBecomes defs.now eq.now sides.now arg.now arguments.now }
+    ensures { IfOk result (StaysOrBecomes defs.now eq.now sides.now (app fun.now arg.now)) }
 {
     match functions {
         Some(made) => Ok(Some(function_applied(
@@ -104,8 +104,8 @@ fn closed_again(
     requires none { Instance eq.now.hyps sides.now.left.now (abs ty.now body.now) → ⊥ }
     requires unused { is_used opening.now.0 (body.now ∷ sides.now.left.now ∷ sides.now.right.now ∷ eq.now.hyps) ≡ false }
     requires opened { opening.now.1 ≡ opened 0 (free opening.now.0 ty.now) body.now }
-    requires inner { MatchOption inner.now (Rewrites eq.now.hyps sides.now.left.now sides.now.right.now opening.now.1 opening.now.1) (Rewriting defs.now eq.now.promises eq.now.hyps sides.now.left.now sides.now.right.now opening.now.1) }
-    ensures { IfOk result (λ o. MatchOption o (Rewrites eq.now.hyps sides.now.left.now sides.now.right.now (abs ty.now body.now) (abs ty.now body.now)) (Rewriting defs.now eq.now.promises eq.now.hyps sides.now.left.now sides.now.right.now (abs ty.now body.now))) }
+    requires inner { StaysOrBecomes defs.now eq.now sides.now opening.now.1 inner.now }
+    ensures { IfOk result (StaysOrBecomes defs.now eq.now sides.now (abs ty.now body.now)) }
 {
     match inner {
         Some(made) => Ok(Some(abstracted(alloc, defs, &opening.0, ty, made)?)),
@@ -125,7 +125,7 @@ fn rewritten(
     requires within { Within eq.now.defs defs.now }
     requires equation { eq.now.concl ≡ equal sides.now.ty.now sides.now.left.now sides.now.right.now }
     requires typed { IsTyped (signature_of defs.now) term.now }
-    ensures { IfOk result (λ o. MatchOption o (Rewrites eq.now.hyps sides.now.left.now sides.now.right.now term.now term.now) (Rewriting defs.now eq.now.promises eq.now.hyps sides.now.left.now sides.now.right.now term.now)) }
+    ensures { IfOk result (StaysOrBecomes defs.now eq.now sides.now term.now) }
 {
     match at_instance(alloc, defs, eq, sides, term)? {
         Some(made) => Ok(Some(made)),
@@ -232,7 +232,7 @@ fn rewriting(
     requires within { Within eq.now.defs defs.now }
     requires equation { eq.now.concl ≡ equal sides.now.ty.now sides.now.left.now sides.now.right.now }
     requires formula { IsFormula (signature_of defs.now) formula.now }
-    ensures { IfOk result (Rewriting defs.now eq.now.promises eq.now.hyps sides.now.left.now sides.now.right.now formula.now) }
+    ensures { IfOk result (Becomes defs.now eq.now sides.now formula.now) }
 {
     match rewritten(alloc, defs, eq, sides, formula, 0)? {
         Some(made) => Ok(made),

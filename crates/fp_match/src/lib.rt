@@ -3,7 +3,7 @@
 
 ghost use Rattle.std.specs.Prelude.{◌≡◌, [], Some, None, IfOk, MatchOption, MatchBool};
 ghost use Rattle.std.specs.Option.{option_copied};
-ghost use Rattle.fp_term.specs.Terms.{found};
+ghost use Rattle.fp_term.specs.Terms.{constant, found};
 ghost use Rattle.fp_term.specs.Typing.{type_under};
 ghost use Rattle.fp_match.specs.Instances.{IsInstanceBy, IsTermInstance, AreOwn, AreFirst};
 ghost use Rattle.fp_match.specs.Walk.{is_number, matched_term, put_term, put_variable};
@@ -72,6 +72,23 @@ fn is_number(number: u32, term: &Term) -> bool
     }
 }
 
+fn match_constant(
+    alloc: Global,
+    inst: &mut Inst,
+    name: &Name,
+    ty: &Ty,
+    term: &Term,
+) -> Result<bool, AllocError>
+    ensures { IfOk result (λ yes. MatchBool yes (matched_term inst.old (constant name.now ty.now) term.now ≡ Some inst.new) (matched_term inst.old (constant name.now ty.now) term.now ≡ None)) }
+{
+    match term.node() {
+        Node::Const { name: a, ty: u } => {
+            Ok(name.equals(a) && match_type(alloc, &mut inst.types, ty, u)?)
+        }
+        _ => Ok(false),
+    }
+}
+
 // Adds what makes the pattern equal to the term, and says whether there is anything that agrees with what is there.
 fn match_onto(
     alloc: Global,
@@ -84,12 +101,7 @@ fn match_onto(
     match pattern.node() {
         Node::Bound(number) => Ok(is_number(*number, term)),
         Node::Free { name, ty } => match_variable(alloc, inst, name, ty, term),
-        Node::Const { name, ty } => match term.node() {
-            Node::Const { name: a, ty: u } => {
-                Ok(name.equals(a) && match_type(alloc, &mut inst.types, ty, u)?)
-            }
-            _ => Ok(false),
-        },
+        Node::Const { name, ty } => match_constant(alloc, inst, name, ty, term),
         Node::App { fun, arg } => match term.node() {
             Node::App { fun: g, arg: y } => {
                 Ok(match_onto(alloc, inst, fun, g)? && match_onto(alloc, inst, arg, y)?)

@@ -1,19 +1,19 @@
-use Rattle.std.proofs.Common.{◌∙◌, sym}
-use Rattle.fp_term.proofs.Equal.{term_eq-decides}
+use Rattle.std.proofs.Common.{subst}
+use Rattle.fp_conclude.specs.Outcomes.{Answers}
 use Rattle.fp_kernel.specs.Start.{signature_of}
-use Rattle.fp_conv.proofs.Rewriting.{found_typed, rewriting_stands}
+use Rattle.fp_kernel.specs.Theorems.{from_one}
+use Rattle.fp_conv.proofs.Rewriting.{found_typed, put_is_rewrite}
 use Rattle.fp_conv.proofs.at_place.rewrite_at.Goals as goal
 
-pub rewritten-requires-clause-typed : goal.rewritten-requires-clause-typed
-rewritten-requires-clause-typed c =
+pub rewritten_at-requires-clause-typed : goal.rewritten_at-requires-clause-typed
+rewritten_at-requires-clause-typed c =
     found_typed (signature_of c.args.defs.now) c.args.term.now c.in_ok-typed_over.field-0 (rw c.signature.ensures at c.in_ok-typed_over.ensures)
 
 pub returns : goal.returns
 returns c =
     let e = c.in-Some.sides in
-    let part = c.in-Some-subterm_at.part.now in
-    rewriting_stands c.args.defs.now c.args.eq.now c.in_ok-rewritten.field-0 c.args.place.now c.args.term.now part c.in_ok-typed_over.field-0 (e.ty.now, e.left.now, e.right.now)
-    (rw c.signature.ensures at c.in_ok-typed_over.ensures) (rw c.concl.ensures.value at c.in-Some.ensures.parts)
-    (sym (rw (c.as_slice.ensures, c.in_ok-steps.ensures) at c.in-Some-subterm_at.ensures))
-    ((term_eq-decides part e.left.now).0 (sym c.same.ensures.value ∙ c.if-not-same.false))
-    (rw (c.as_slice-2.ensures, c.in_ok-steps.ensures) at c.in_ok-rewritten.ensures)
+    let s = c.in_ok-typed_over.field-0 in
+    let typed = rw c.signature.ensures at c.in_ok-typed_over.ensures in
+    subst (λ o. Answers c.rewritten_at.result (from_one c.args.defs.now c.args.eq.now c.args.eq.now.hyps o))
+    (put_is_rewrite (signature_of c.args.defs.now) c.args.place.now c.args.eq.now.concl c.args.term.now s (e.ty.now, e.left.now, e.right.now) typed (rw c.concl.ensures.value at c.in-Some.ensures.parts))
+    (c.rewritten_at.ensures s typed)
