@@ -16,8 +16,8 @@ use Rattle.fp_kernel.specs.Start.{signature_of, connective_numbered}
 use Rattle.fp_kernel.specs.Derivability.{IsFormula}
 use Rattle.fp_kernel.specs.Theorems.{Theorem, stands, from_one}
 use Rattle.fp_kernel.proofs.Growing.{from_start}
-use Rattle.fp_logic.specs.Shapes.{left}
-use Rattle.fp_logic.specs.Schemas.{identity}
+use Rattle.fp_forms.specs.Shapes.{left}
+use Rattle.fp_forms.specs.Schemas.{identity}
 use Rattle.fp_disjunction.specs.Schemas.{always_true, universal_is}
 use Rattle.fp_logic.specs.Steps.{plain, by_one, by_both, CanUnfold, unfolded}
 use Rattle.fp_logic.proofs.Concrete.{at_start}

@@ -18,9 +18,9 @@ use Rattle.fp_kernel.specs.Theorems.{Theorem, ArePromises, stands, from_one}
 use Rattle.fp_kernel.proofs.Growing.{from_start}
 use Rattle.fp_kernel.proofs.Promised.{promises_alone}
 use Rattle.fp_disjunction.specs.Forms.{disjunction}
-use Rattle.fp_logic.specs.Schemas.{q_variable, held}
+use Rattle.fp_forms.specs.Schemas.{q_variable, held}
 use Rattle.fp_disjunction.specs.Schemas.{r_variable, each_way, always_true}
-use Rattle.fp_logic.specs.Shapes.{left, right}
+use Rattle.fp_forms.specs.Shapes.{left, right}
 use Rattle.fp_logic.specs.Steps.{plain, from_itself, by_one, by_both, CanCombine, combined}
 use Rattle.fp_logic.proofs.Concrete.{at_start}
 use Rattle.fp_disjunction.specs.Steps.{without_both}

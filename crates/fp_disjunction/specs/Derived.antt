@@ -8,7 +8,7 @@ use Rattle.fp_conclude.specs.Rules.{assume_of}
 use Rattle.fp_conclude.specs.Outcomes.{Outcome, gives, refused, followed_by, with_part, shape, differ}
 use Rattle.fp_kernel.specs.Definitions.{Def}
 use Rattle.fp_kernel.specs.Theorems.{Theorem, promise_union}
-use Rattle.fp_logic.specs.Forms.{implication_parts}
+use Rattle.fp_forms.specs.Forms.{implication_parts}
 use Rattle.fp_disjunction.specs.Forms.{disjunction, disjunction_parts, negated}
 
 -- `p = F` from `~ p`

@@ -2,7 +2,7 @@
 use Rattle.std.specs.Prelude.{if◌then◌else◌, Option, Some, None, codes}
 use Rattle.fp_term.specs.Terms.{Tm, app, term_eq}
 use Rattle.fp_conclude.specs.Logic.{connective, negation_constant}
-use Rattle.fp_logic.specs.Forms.{parts_by}
+use Rattle.fp_forms.specs.Forms.{parts_by}
 
 abbrev pub disjunction : Tm → Tm → Tm
 disjunction p q = app (app (connective (codes "or")) p) q

@@ -2,7 +2,7 @@
 use Rattle.std.specs.Prelude.{Bool, if◌then◌else◌, codes}
 use Rattle.fp_term.specs.Terms.{Tm, bound, free, abs}
 use Rattle.fp_conclude.specs.Logic.{truth_type, predicate_type, quantifier_type, equal, true_constant, implication, quantifier}
-use Rattle.fp_logic.specs.Schemas.{q_variable}
+use Rattle.fp_forms.specs.Schemas.{q_variable}
 use Rattle.fp_disjunction.specs.Forms.{disjunction}
 
 -- `P = (%x. T)`, for a predicate on formulas

@@ -8,8 +8,8 @@ ghost use Rattle.fp_disjunction.specs.Schemas.{joined_truth};
 
 use crate::joining::{first_schema, second_schema};
 use fp_conclude::{apply_both, connective, true_constant};
+use fp_forms::q_variable;
 use fp_kernel::{Defs, Thm};
-use fp_logic::holding::q_variable;
 use fp_term::Term;
 use std::alloc::{AllocError, Global};
 

@@ -3,7 +3,7 @@ ghost use Rattle.std.specs.Prelude.{◌≡◌, Some, None, IfOk, MatchOption};
 ghost use Rattle.fp_disjunction.specs.Forms.{disjunction_parts, negated};
 
 use fp_conclude::negation_constant;
-use fp_logic::parts::parts_by;
+use fp_forms::parts_by;
 use fp_term::{Node, Term, same};
 use std::alloc::{AllocError, Global};
 

@@ -1,5 +1,5 @@
 -- An equation's sides as arguments, and as functions.
-use Rattle.std.proofs.Common.{◌≡◌, List, [], refl, ap}
+use Rattle.std.proofs.Common.{◌≡◌, List, [], refl}
 use Rattle.fp_term.specs.Types.{Typ}
 use Rattle.fp_term.specs.Terms.{Tm}
 use Rattle.fp_term.specs.declared.signature.Signature.{Signature}
@@ -14,9 +14,9 @@ use Rattle.fp_kernel.specs.Definitions.{Def, Within, whole}
 use Rattle.fp_kernel.specs.Start.{signature_of}
 use Rattle.fp_kernel.specs.Theorems.{Theorem, ArePromises, stands, from_one, from_both}
 use Rattle.fp_kernel.proofs.Promised.{promises_alone}
-use Rattle.fp_logic.specs.Derived.{sym_of, ap_of, ap_arg_of}
-use Rattle.fp_logic.specs.Shapes.{right}
-use Rattle.fp_logic.specs.Steps.{plain, by_one}
+use Rattle.fp_logic.specs.Derived.{ap_of, ap_arg_of}
+use Rattle.fp_forms.specs.Shapes.{right}
+use Rattle.fp_logic.specs.Steps.{plain}
 
 -- what is given as the equation of a term with itself
 pub own_from : (defs : List Def) (t : Tm) (o : Outcome Typ) (th : Theorem) → stands defs [] [] (followed_by o (λ s. gives (equal s t t))) ≡ gives th → (s : Typ) × (o ≡ gives s) × (th ≡ plain defs (equal s t t))
@@ -44,12 +44,6 @@ ap_arg_is defs t own a e =
 -- the sides exchanged
 pub its_right : (p : Tm) (s : Typ) (l r : Tm) → p ≡ equal s l r → p ≡ equal s l (right p)
 its_right p s l r e = rw e refl
-
-sym_as : (p : Tm) (s : Typ) (l r : Tm) → p ≡ equal s l r → sym_of p ≡ gives (equal s (right p) l)
-sym_as p s l r e = rw (e, equal_parts s l r) refl
-
-pub sym_gives : (defs : List Def) (a : Theorem) (s : Typ) (l r : Tm) → a.concl ≡ equal s l r → from_one defs a a.hyps (sym_of a.concl) ≡ gives (by_one defs a (equal s (right a.concl) l))
-sym_gives defs a s l r e = ap (λ o. from_one defs a a.hyps o) (sym_as a.concl s l r e)
 
 pub own_within : (defs : List Def) (t : Tm) (own : Theorem) → stands defs [] [] (refl_of (signature_of defs) t) ≡ gives own → Within own.defs defs
 own_within defs t own e = let o = own_from defs t (typed_over (signature_of defs) t) own e in rw o.2 whole

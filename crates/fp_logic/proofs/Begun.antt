@@ -8,7 +8,7 @@ use Rattle.fp_kernel.specs.Definitions.{Def, Within, whole, newer}
 use Rattle.fp_kernel.specs.Derivability.{IsFormula}
 use Rattle.fp_kernel.specs.Start.{signature_of}
 use Rattle.fp_kernel.specs.Theorems.{Theorem, from_one}
-use Rattle.fp_logic.specs.Schemas.{in_place}
+use Rattle.fp_forms.specs.Schemas.{in_place}
 use Rattle.fp_logic.specs.Steps.{plain}
 use Rattle.fp_logic.proofs.Given.{Instance, instance_of}
 

@@ -6,11 +6,11 @@ use Rattle.fp_conclude.specs.Logic.{truth_type, predicate_type, binary_type, equ
 use Rattle.fp_kernel.specs.Definitions.{Def, whole}
 use Rattle.fp_kernel.specs.Start.{signature_of}
 use Rattle.fp_kernel.specs.Theorems.{Theorem}
-use Rattle.fp_logic.specs.Shapes.{function_in, argument_in, body_in}
+use Rattle.fp_forms.specs.Shapes.{function_in, argument_in, body_in}
 use Rattle.fp_logic.specs.Steps.{plain, choice_schema, by_one, CanCombine, CanConvert, CanUnfold, unfolded}
-use Rattle.fp_logic.specs.Schemas.{p_variable, q_variable, in_place, itself, both_true, chooser, chosen, chosen_from, choice}
-use Rattle.fp_logic.specs.Lemmas.{statement_of}
-use Rattle.fp_logic.specs.declared.lemmas.Lemma.TheVariants.{Choice}
+use Rattle.fp_forms.specs.Schemas.{p_variable, q_variable, in_place, itself, both_true, chooser, chosen, chosen_from, choice}
+use Rattle.fp_forms.specs.Lemmas.{statement_of}
+use Rattle.fp_forms.specs.declared.lemma.Lemma.TheVariants.{Choice}
 use Rattle.fp_logic.proofs.Concrete.{at_start}
 
 pub chooser_typed : (defs : List Def) (b : Bool) → IsWellTyped (signature_of defs) (chooser b) (binary_type truth_type truth_type)

@@ -8,8 +8,8 @@ use Rattle.fp_conclude.proofs.Sets.{union_nothing}
 use Rattle.fp_kernel.specs.Definitions.{Def, whole}
 use Rattle.fp_kernel.specs.Theorems.{Theorem, ArePromises}
 use Rattle.fp_kernel.proofs.Promised.{promises_alone}
-use Rattle.fp_logic.specs.Shapes.{right}
-use Rattle.fp_logic.specs.Schemas.{held}
+use Rattle.fp_forms.specs.Shapes.{right}
+use Rattle.fp_forms.specs.Schemas.{held}
 use Rattle.fp_logic.specs.Steps.{plain, by_one, by_both, CanCombine, combined, CanReplace}
 use Rattle.fp_logic.proofs.Begun.{from_nothing}
 

@@ -13,7 +13,7 @@ use Rattle.fp_kernel.specs.Start.{signature_of}
 use Rattle.fp_kernel.specs.Derivability.{IsFormula}
 use Rattle.fp_kernel.specs.Theorems.{Theorem, ArePromises, promise_union}
 use Rattle.fp_kernel.proofs.Promised.{promises_alone}
-use Rattle.fp_logic.specs.Schemas.{implied}
+use Rattle.fp_forms.specs.Schemas.{implied}
 use Rattle.fp_logic.specs.Steps.{without_one}
 use Rattle.fp_logic.proofs.Concrete.{at_start}
 

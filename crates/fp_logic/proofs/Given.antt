@@ -12,7 +12,7 @@ use Rattle.std.proofs.lemmas.Option.{same_Some}
 use Rattle.fp_conclude.specs.Hypotheses.{all_replaced}
 use Rattle.fp_kernel.specs.Derivability.{IsFormula}
 use Rattle.fp_kernel.proofs.Growing.{from_start}
-use Rattle.fp_logic.specs.Schemas.{in_place}
+use Rattle.fp_forms.specs.Schemas.{in_place}
 use Rattle.fp_conclude.specs.Logic.{truth_type, equal}
 use Rattle.fp_conclude.specs.declared.fault.RuleFault.{RuleFault}
 use Rattle.fp_conclude.specs.declared.fault.RuleFault.TheVariants.{UnknownName, IllTyped, NotEquation, NotRedex, NotBool, Shape, Differ, FreeInHyps, NoSuchPromise, PromiseOrder, NoMemory}
@@ -22,7 +22,7 @@ use Rattle.fp_conclude.proofs.Gives.{refl_gives, trans_gives, mk_comb_gives, bet
 use Rattle.fp_kernel.specs.Definitions.{Def}
 use Rattle.fp_kernel.specs.Start.{signature_of}
 use Rattle.fp_kernel.specs.Theorems.{Theorem, stands, from_one, from_both}
-use Rattle.fp_logic.specs.Shapes.{side_type, target, left, right, binder_in, body_in, function_in, argument_in, IsRedex}
+use Rattle.fp_forms.specs.Shapes.{side_type, target, left, right, binder_in, body_in, function_in, argument_in, IsRedex}
 use Rattle.fp_logic.specs.Steps.{plain, from_itself, by_both, IsGiven, CanChain, chained, CanCombine, combined, CanReplace}
 
 memory_alone : (fault : RuleFault) (o : Outcome Theorem) (x : Theorem) → FaultIs fault o → o ≡ gives x → fault ≡ NoMemory
@@ -126,9 +126,6 @@ Instance defs th l r =
 
 pub instance_of : (defs : List Def) (p : Tm) (l r : Tm) → IsFormula (signature_of defs) l → IsFormula (signature_of defs) r → Instance defs (plain defs p) l r
 instance_of defs p l r h k = ap (λ o. stands defs [] [] o) (inst_gives (signature_of defs) (in_place l r) p (known_types defs) (h, (k, tt)))
-
-pub instance_gives : (defs : List Def) (th : Theorem) (l r : Tm) → th ≡ plain defs th.concl → IsFormula (signature_of defs) l → IsFormula (signature_of defs) r → Instance defs th l r
-instance_gives defs th l r e h k = subst (λ (x : Theorem). Instance defs x l r) (sym e) (instance_of defs th.concl l r h k)
 
 -- what is given for a term of that type
 pub at_type : {E : Type 0} (r : Result Theorem E) (t : Tm) (f : Typ → Theorem) (s : Typ) → type_under [] t ≡ Some s →

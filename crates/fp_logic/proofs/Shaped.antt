@@ -20,12 +20,11 @@ use Rattle.fp_kernel.specs.Definitions.{Def, Within}
 use Rattle.fp_kernel.specs.Start.{signature_of}
 use Rattle.fp_kernel.specs.Derivability.{IsFormula}
 use Rattle.fp_kernel.specs.Theorems.{Theorem, IsTheorem}
-use Rattle.fp_logic.specs.Forms.{parts_by, implication_parts}
+use Rattle.fp_forms.specs.Forms.{parts_by, implication_parts}
 use Rattle.fp_logic.specs.Derived.{untrue, eqt_elim_of, mp_of}
-use Rattle.fp_logic.specs.Steps.{plain, CanEstablish, IsJoined}
+use Rattle.fp_logic.specs.Steps.{IsJoined}
 use Rattle.fp_logic.proofs.Turning.{lifted, lifted_sides}
 use Rattle.fp_conclude.specs.Logic.{implication}
-use Rattle.fp_kernel.specs.Definitions.{whole}
 
 pub untrue_shape : (defs : List Def) (th : Theorem) (c : Tm) → Within th.defs defs → IsTheorem th → eqt_elim_of th.concl ≡ gives c → th.concl ≡ equal truth_type c true_constant
 untrue_shape defs th c w d e =
@@ -37,14 +36,6 @@ untrue_shape defs th c w d e =
     let same = (term_eq-decides x.2 true_constant).0 k.0 in
     let type : x.0 ≡ truth_type = same_Some x.0 truth_type (sym h.right.typed ∙ ap (type_under []) same) in
     is ∙ (rw (type, same, k.1) refl)
-
-untrue_as : (defs : List Def) (a : Theorem) (p c : Tm) → Within a.defs defs → p ≡ equal truth_type c true_constant →
-    CanEstablish defs (record a { concl = p }) (plain defs (equal truth_type c c)) (plain defs (equal truth_type c c))
-untrue_as defs a p c w e = rw e (w, whole, refl, refl, refl)
-
-pub untrue_asks : (defs : List Def) (a : Theorem) (c : Tm) → Within a.defs defs → a.concl ≡ equal truth_type c true_constant →
-    CanEstablish defs a (plain defs (equal truth_type c c)) (plain defs (equal truth_type c c))
-untrue_asks defs a c w e = untrue_as defs a a.concl c w e
 
 -- what has parts is made of them
 abbrev Two : Type 0

@@ -14,9 +14,9 @@ use Rattle.fp_kernel.specs.Theorems.{Theorem, IsTheorem, ArePromises}
 use Rattle.fp_kernel.proofs.Formulas.{formula_of, Sides, sides}
 use Rattle.fp_kernel.proofs.Later.{later_all}
 use Rattle.fp_kernel.proofs.Promised.{promises_alone}
-use Rattle.fp_logic.specs.Shapes.{side_type, left, right, IsEquation, IsEquationFrom}
+use Rattle.fp_forms.specs.Shapes.{side_type, left, right, IsEquation, IsEquationFrom}
 use Rattle.fp_logic.specs.Steps.{plain, by_one, by_both, CanCombine, combined, CanReplace, own_equality, CanTurn, turned, CanChain, chained, CanCarry, CanEstablish, CanConvert, CanFold}
-use Rattle.fp_logic.specs.Schemas.{true_meaning}
+use Rattle.fp_forms.specs.Schemas.{true_meaning}
 
 -- whatever is concluded is a formula over each longer list
 pub lifted : (defs : List Def) (th : Theorem) → Within th.defs defs → IsTheorem th → IsFormula (signature_of defs) th.concl

@@ -11,7 +11,7 @@ use Rattle.fp_conclude.specs.Rules.{applied_at, assume_of}
 use Rattle.fp_conclude.specs.Outcomes.{Outcome, gives, refused, followed_by, with_part, not_equation, shape, differ}
 use Rattle.fp_kernel.specs.Definitions.{Def}
 use Rattle.fp_kernel.specs.Theorems.{Theorem}
-use Rattle.fp_logic.specs.Forms.{conjunction_parts, implication_parts}
+use Rattle.fp_forms.specs.Forms.{conjunction_parts, implication_parts}
 
 -- `t = s` from `s = t`
 abbrev pub sym_of : Tm → Outcome Tm

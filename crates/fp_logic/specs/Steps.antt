@@ -11,8 +11,8 @@ use Rattle.fp_kernel.specs.Definitions.{Def, Within}
 use Rattle.fp_kernel.specs.Start.{signature_of}
 use Rattle.fp_kernel.specs.Derivability.{IsFormula}
 use Rattle.fp_kernel.specs.Theorems.{Theorem, promise_union}
-use Rattle.fp_logic.specs.Schemas.{p_variable, q_variable, held, itself, choice, chosen}
-use Rattle.fp_logic.specs.Shapes.{side_type, target, left, right, body_in, IsEquation, IsEquationOn, IsEquationFrom, IsAbstraction}
+use Rattle.fp_forms.specs.Schemas.{p_variable, q_variable, held, itself, choice, chosen}
+use Rattle.fp_forms.specs.Shapes.{side_type, target, left, right, body_in, IsEquation, IsEquationOn, IsEquationFrom, IsAbstraction}
 
 -- a theorem without hypotheses and promises, and with those of one and of two others
 abbrev pub plain : List Def → Tm → Theorem

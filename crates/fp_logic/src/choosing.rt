@@ -1,46 +1,25 @@
 //! `p` and `q` from `p /\ q`.
 ghost use Rattle.std.specs.Prelude.{◌≡◌, IfOk};
 ghost use Rattle.fp_term.specs.Terms.{app};
-ghost use Rattle.fp_conclude.specs.Logic.{truth_type, binary_type, equal, conjunction, true_constant};
+ghost use Rattle.fp_conclude.specs.Logic.{truth_type, binary_type, equal, true_constant};
 ghost use Rattle.fp_kernel.specs.Derivability.{IsFormula};
 ghost use Rattle.fp_kernel.specs.Start.{signature_of};
-ghost use Rattle.fp_logic.specs.Shapes.{left, right, IsEquationFrom};
+ghost use Rattle.fp_forms.specs.Shapes.{left, right, IsEquationFrom};
 ghost use Rattle.fp_logic.specs.Steps.{plain, by_one, by_both, choice_schema, IsConjunction};
-ghost use Rattle.fp_logic.specs.Schemas.{p_variable, q_variable, applying, both_true, chooser, chosen, chosen_from, choice};
+ghost use Rattle.fp_forms.specs.Schemas.{p_variable, q_variable, both_true, chooser, chosen, chosen_from, choice};
 
 use crate::equations::unfold;
-use crate::holding::{convert, establish, p_variable, q_variable};
+use crate::holding::{convert, establish};
 use crate::instances::instance;
-use crate::lemmas::{Lemma, lemma_at};
-use crate::shapes::left;
-use crate::statements::applying_variables;
+use crate::lemmas::lemma_at;
 use crate::steps::{chain, combine, own, reduced};
 use crate::unfolding::{conjunction_meaning, own_q};
-use fp_conclude::{abstraction, apply, apply_both, binary_truth, true_constant, truth_type};
+use fp_conclude::{apply, true_constant};
+use fp_forms::shapes::left;
+use fp_forms::{Lemma, applying_variables, chooser, p_variable};
 use fp_kernel::{Defs, Thm};
 use fp_term::Term;
 use std::alloc::{AllocError, Global};
-
-/// `%x y. x` or `%x y. y`
-pub fn chooser(alloc: Global, first: bool) -> Result<Term, AllocError>
-    ensures { IfOk result (λ t. t ≡ chooser first) }
-{
-    let number = if first { 1 } else { 0 };
-    let ty = truth_type(alloc)?;
-    let body = Term::bound(alloc, number)?;
-    let inner = abstraction(alloc, &ty, &body)?;
-    abstraction(alloc, &ty, &inner)
-}
-
-/// `%f. f l r`
-pub fn applying(alloc: Global, left: &Term, right: &Term) -> Result<Term, AllocError>
-    ensures { IfOk result (λ t. t ≡ applying left.now right.now) }
-{
-    let function = Term::bound(alloc, 0)?;
-    let body = apply_both(alloc, &function, left, right)?;
-    let ty = binary_truth(alloc)?;
-    abstraction(alloc, &ty, &body)
-}
 
 // `(%f. f p q) c = c p q`, for a chooser `c`.
 fn passed(alloc: Global, defs: &Defs, first: bool, by: &Term) -> Result<Thm, AllocError>

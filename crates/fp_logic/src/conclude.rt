@@ -2,8 +2,8 @@
 ghost use Rattle.fp_conclude.specs.Outcomes.{Answers};
 ghost use Rattle.fp_logic.specs.Derived.{eqt_elim_of, mp_of};
 
-use crate::parts::implication_parts;
 use fp_conclude::{RuleFault, differ, sides, true_constant};
+use fp_forms::implication_parts;
 use fp_term::{Term, same};
 use std::alloc::Global;
 

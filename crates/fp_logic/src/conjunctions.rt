@@ -5,16 +5,16 @@ ghost use Rattle.fp_conclude.specs.Outcomes.{Answers, gives};
 ghost use Rattle.fp_kernel.specs.Definitions.{Within};
 ghost use Rattle.fp_kernel.specs.Theorems.{from_one, from_both};
 ghost use Rattle.fp_logic.specs.Derived.{conj1_of, conj2_of};
-ghost use Rattle.fp_logic.specs.Schemas.{held};
-ghost use Rattle.fp_logic.specs.Shapes.{right};
+ghost use Rattle.fp_forms.specs.Schemas.{held};
+ghost use Rattle.fp_forms.specs.Shapes.{right};
 ghost use Rattle.fp_logic.specs.Steps.{plain, by_one, by_both};
 
 use crate::choosing::conjunct;
 use crate::holding::hold;
-use crate::lemmas::{Lemma, recalled};
-use crate::parts::conjunction_parts;
+use crate::lemmas::recalled;
 use crate::steps::{combine, own, replace};
 use fp_conclude::{RuleFault, connective};
+use fp_forms::{Lemma, conjunction_parts};
 use fp_kernel::{Defs, Thm};
 use std::alloc::{AllocError, Global};
 

@@ -1,25 +1,25 @@
 //! Derivations of the lemmas, by the rules and without other lemmas. Each is made once for a list of definitions and
 //! those that grow from it.
 ghost use Rattle.std.specs.Prelude.{◌≡◌, IfOk};
-ghost use Rattle.fp_term.specs.Terms.{app};
-ghost use Rattle.fp_conclude.specs.Logic.{truth_type, equal, true_constant, conjunction};
+ghost use Rattle.fp_conclude.specs.Logic.{truth_type, true_constant, conjunction};
 ghost use Rattle.fp_kernel.specs.Derivability.{IsFormula};
 ghost use Rattle.fp_kernel.specs.Start.{signature_of};
-ghost use Rattle.fp_logic.specs.Lemmas.{equivalent, exchanged, statement_of};
-ghost use Rattle.fp_logic.specs.declared.lemmas.Lemma.TheVariants.{Truthful, Untrue, Truths, Choice, Turned, Folded};
-ghost use Rattle.fp_logic.specs.Schemas.{p_variable, q_variable, both_true, choice, chosen};
+ghost use Rattle.fp_forms.specs.Lemmas.{equivalent, exchanged, statement_of};
+ghost use Rattle.fp_forms.specs.declared.lemma.Lemma.TheVariants.{Truthful, Untrue, Truths, Choice, Turned, Folded};
+ghost use Rattle.fp_forms.specs.Schemas.{p_variable, q_variable, both_true, choice, chosen};
 ghost use Rattle.fp_logic.specs.Steps.{plain, from_itself, by_one};
 
 use crate::choosing::{choice_schema, truth_choice};
 use crate::equations::swap;
-use crate::holding::{fold, held_schema, p_variable, q_variable, truth_equality, truth_itself};
+use crate::holding::{fold, held_schema, truth_equality, truth_itself};
 use crate::instances::instance;
-use crate::lemmas::Lemma;
-use crate::shapes::left;
-use crate::statements::{applying_truths, chosen, conjunction_of_variables, equivalent};
 use crate::steps::{assumed, chain, combine, equate, own};
 use crate::unfolding::{conjunction_schema, implication_schema};
 use fp_conclude::{true_constant, truth_type};
+use fp_forms::shapes::left;
+use fp_forms::{
+    Lemma, applying_truths, chosen, conjunction_of_variables, equivalent, p_variable, q_variable,
+};
 use fp_kernel::{Defs, Thm};
 use fp_term::Term;
 use std::alloc::{AllocError, Global};

@@ -6,12 +6,12 @@ ghost use Rattle.fp_term.specs.Signatures.{IsWellTyped};
 ghost use Rattle.fp_conclude.specs.Logic.{equality_type, equal};
 ghost use Rattle.fp_kernel.specs.Definitions.{Within};
 ghost use Rattle.fp_kernel.specs.Start.{signature_of};
-ghost use Rattle.fp_logic.specs.Shapes.{side_type, left, right, function_in, argument_in, body_in, IsEquation, IsRedex};
+ghost use Rattle.fp_forms.specs.Shapes.{side_type, left, right, function_in, argument_in, body_in, IsEquation, IsRedex};
 ghost use Rattle.fp_logic.specs.Steps.{plain, by_one, by_both, CanUnfold, unfolded, own_equality, CanTurn, turned};
 
-use crate::shapes::right;
 use crate::steps::{chain, combine, own, reduced, replace};
 use fp_conclude::equality_at;
+use fp_forms::shapes::right;
 use fp_kernel::{Defs, Thm};
 use fp_term::{Term, Ty};
 use std::alloc::{AllocError, Global};

@@ -1,19 +1,18 @@
 //! What is true, and equations with `T`.
 ghost use Rattle.std.specs.Prelude.{◌≡◌, IfOk};
-ghost use Rattle.fp_term.specs.Terms.{bound};
 ghost use Rattle.fp_conclude.specs.Logic.{truth_type, equal, true_constant};
 ghost use Rattle.fp_kernel.specs.Definitions.{Within};
-ghost use Rattle.fp_logic.specs.Shapes.{left, right};
+ghost use Rattle.fp_forms.specs.Shapes.{left, right};
 ghost use Rattle.fp_logic.specs.Steps.{plain, from_itself, by_one, by_both, own_equality, CanCarry, CanEstablish, CanConvert, CanFold};
-ghost use Rattle.fp_logic.specs.Schemas.{p_variable, q_variable, identity, true_meaning, held};
+ghost use Rattle.fp_forms.specs.Schemas.{p_variable, identity, true_meaning, held};
 
 use crate::equations::{equality_of, swap, turn};
-use crate::lemmas::{Lemma, lemma_at};
-use crate::shapes;
+use crate::lemmas::lemma_at;
 use crate::steps::{assumed, chain, definition, equate, own, replace};
-use fp_conclude::{abstraction, equation, true_constant, truth_type};
+use fp_conclude::{true_constant, truth_type};
+use fp_forms::{Lemma, held_variable, identity, p_variable, shapes};
 use fp_kernel::{Defs, Thm};
-use fp_term::{Name, Term};
+use fp_term::Term;
 use std::alloc::{AllocError, Global};
 
 /// That equality of formulas is itself.
@@ -39,14 +38,6 @@ pub fn carry(
     let equality = truth_equality(alloc, defs)?;
     let turned = turn(alloc, defs, &equality, first, second, own)?;
     replace(alloc, defs, &turned, third)
-}
-
-/// `%p. p`
-pub fn identity(alloc: Global) -> Result<Term, AllocError>
-    ensures { IfOk result (λ t. t ≡ identity) }
-{
-    let body = Term::bound(alloc, 0)?;
-    abstraction(alloc, &truth_type(alloc)?, &body)
 }
 
 // `(%p. p) = (%p. p)`
@@ -109,22 +100,6 @@ pub fn convert(alloc: Global, defs: &Defs, equation: &Thm, th: &Thm) -> Result<T
     replace(alloc, defs, equation, th)
 }
 
-/// `p`, the variable.
-#[tactic(auto, unfolding(fp_term::specs::Names::is_name))]
-pub fn p_variable(alloc: Global) -> Result<Term, AllocError>
-    ensures { IfOk result (λ t. t ≡ p_variable) }
-{
-    Term::free(alloc, Name::of(alloc, b"p")?, truth_type(alloc)?)
-}
-
-/// `q`, the variable.
-#[tactic(auto, unfolding(fp_term::specs::Names::is_name))]
-pub fn q_variable(alloc: Global) -> Result<Term, AllocError>
-    ensures { IfOk result (λ t. t ≡ q_variable) }
-{
-    Term::free(alloc, Name::of(alloc, b"q")?, truth_type(alloc)?)
-}
-
 // `T = p` from `p`.
 fn held_from(alloc: Global, defs: &Defs) -> Result<Thm, AllocError>
     ensures { IfOk result (λ th. th ≡ record (from_itself defs.now p_variable) { concl = held p_variable }) }
@@ -133,16 +108,6 @@ fn held_from(alloc: Global, defs: &Defs) -> Result<Thm, AllocError>
     let itself = assumed(alloc, defs, &term)?;
     let truth = truth_itself(alloc, defs)?;
     equate(alloc, defs, &truth, &itself)
-}
-
-// `T = p`
-fn held_variable(alloc: Global) -> Result<Term, AllocError>
-    ensures { IfOk result (λ t. t ≡ held p_variable) }
-{
-    let ty = truth_type(alloc)?;
-    let truth = true_constant(alloc)?;
-    let term = p_variable(alloc)?;
-    equation(alloc, &ty, &truth, &term)
 }
 
 // `p` from `T = p`.

@@ -7,7 +7,7 @@ ghost use Rattle.fp_kernel.specs.Definitions.{Within};
 ghost use Rattle.fp_kernel.specs.Derivability.{IsFormula};
 ghost use Rattle.fp_kernel.specs.Start.{signature_of};
 ghost use Rattle.fp_logic.specs.Steps.{plain};
-ghost use Rattle.fp_logic.specs.Schemas.{in_place};
+ghost use Rattle.fp_forms.specs.Schemas.{in_place};
 
 use crate::steps::given;
 use fp_conclude::truth_type;

@@ -4,41 +4,16 @@ ghost use Rattle.std.specs.Prelude.{◌≡◌, [], IfOk};
 ghost use Rattle.fp_term.specs.Terms.{replaced};
 ghost use Rattle.fp_kernel.specs.Derivability.{IsFormula};
 ghost use Rattle.fp_kernel.specs.Start.{signature_of};
-ghost use Rattle.fp_logic.specs.Lemmas.{statement_of};
-ghost use Rattle.fp_logic.specs.Schemas.{in_place};
+ghost use Rattle.fp_forms.specs.Lemmas.{statement_of};
+ghost use Rattle.fp_forms.specs.Schemas.{in_place};
 ghost use Rattle.fp_logic.specs.Steps.{plain};
 
 use crate::derivations::derived;
 use crate::instances::instance_of;
-use crate::statements::statement;
+use fp_forms::{Lemma, statement};
 use fp_kernel::{Defs, Thm};
 use fp_term::Term;
 use std::alloc::{AllocError, Global};
-
-/// A lemma for the variables `p` and `q`.
-#[derive(Clone, Copy)]
-pub enum Lemma {
-    /// `T`
-    Truth,
-    /// `p = (T = p)`
-    Held,
-    /// `p = (p = T)`
-    Truthful,
-    /// `(p = T) = p`
-    Untrue,
-    /// `(p /\ q) = ((%f. f p q) = (%f. f T T))`
-    Conjoined,
-    /// `T /\ T`
-    Truths,
-    /// `((%f. f p q) (%x y. x) = (%f. f T T) (%x y. x)) = p`, or with `%x y. y` and `q`.
-    Choice(bool),
-    /// `(p --> q) = ((p /\ q) = p)`
-    Implied,
-    /// `(p --> q) = (p = (p /\ q))`
-    Turned,
-    /// `((p /\ q) = p) = (p --> q)`
-    Folded,
-}
 
 // The place in which the lemma is kept.
 fn place(lemma: Lemma) -> usize {

@@ -10,7 +10,7 @@ ghost use Rattle.fp_conclude.specs.declared.fault.RuleFault.TheVariants.{NoMemor
 ghost use Rattle.fp_kernel.specs.Derivability.{IsFormula};
 ghost use Rattle.fp_kernel.specs.Start.{signature_of, connective_numbered};
 ghost use Rattle.fp_kernel.specs.Theorems.{promise_union};
-ghost use Rattle.fp_logic.specs.Shapes.{right, function_in, argument_in, body_in, IsRedex};
+ghost use Rattle.fp_forms.specs.Shapes.{right, function_in, argument_in, body_in, IsRedex};
 ghost use Rattle.fp_logic.specs.Steps.{plain, from_itself, by_both, IsGiven, CanChain, chained, CanCombine, combined, CanReplace, CanEquate};
 
 use fp_conclude::{RuleFault, truth_type};

@@ -9,8 +9,9 @@ ghost use Rattle.fp_logic.specs.Steps.{by_one};
 
 use crate::conclude;
 use crate::holding::convert;
-use crate::lemmas::{Lemma, lemma_at};
+use crate::lemmas::lemma_at;
 use fp_conclude::{RuleFault, true_constant};
+use fp_forms::Lemma;
 use fp_kernel::{Defs, Thm};
 use fp_term::Term;
 use std::alloc::{AllocError, Global};

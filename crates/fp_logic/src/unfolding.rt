@@ -4,12 +4,12 @@ ghost use Rattle.fp_conclude.specs.Logic.{truth_type, equal, conjunction, implic
 ghost use Rattle.fp_kernel.specs.Derivability.{IsFormula};
 ghost use Rattle.fp_kernel.specs.Start.{signature_of};
 ghost use Rattle.fp_logic.specs.Steps.{plain, unfolded, unfolded_twice, CanUnfoldTwice};
-ghost use Rattle.fp_logic.specs.Schemas.{p_variable, q_variable, itself, both_true, implied};
+ghost use Rattle.fp_forms.specs.Schemas.{p_variable, q_variable, itself, both_true, implied};
 
 use crate::equations::unfold;
-use crate::holding::{p_variable, q_variable};
-use crate::lemmas::{Lemma, lemma_at};
+use crate::lemmas::lemma_at;
 use crate::steps::{definition, own};
+use fp_forms::{Lemma, p_variable, q_variable};
 use fp_kernel::{Defs, Thm};
 use fp_term::Term;
 use std::alloc::{AllocError, Global};

@@ -12,7 +12,7 @@ use Rattle.fp_conclude.specs.Outcomes.{gives}
 use Rattle.fp_kernel.specs.Definitions.{Def, Within}
 use Rattle.fp_kernel.specs.Start.{signature_of}
 use Rattle.fp_kernel.specs.Theorems.{Theorem, IsTheorem, from_one}
-use Rattle.fp_logic.specs.Shapes.{argument_in, body_in, IsAbstraction}
+use Rattle.fp_forms.specs.Shapes.{argument_in, body_in, IsAbstraction}
 use Rattle.fp_logic.specs.Steps.{by_one}
 use Rattle.fp_quant.specs.Existential.{existence_parts, witness_type, exists_of}
 use Rattle.fp_quant.specs.Existence.{IsPredicate, IsExistence}

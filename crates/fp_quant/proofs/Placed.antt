@@ -18,7 +18,7 @@ use Rattle.fp_kernel.specs.Definitions.{Def, Within, whole}
 use Rattle.fp_kernel.specs.Start.{signature_of}
 use Rattle.fp_kernel.specs.Theorems.{Theorem, stands, from_one}
 use Rattle.fp_kernel.proofs.Growing.{from_start}
-use Rattle.fp_logic.specs.Schemas.{q_variable}
+use Rattle.fp_forms.specs.Schemas.{q_variable}
 use Rattle.fp_logic.specs.Steps.{plain}
 use Rattle.fp_quant.specs.Existence.{predicate_variable, holds, some_such, reaches, each_chosen, for_alpha, placed}
 

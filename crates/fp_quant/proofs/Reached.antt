@@ -13,7 +13,7 @@ use Rattle.fp_conclude.specs.Hypotheses.{occurs}
 use Rattle.fp_kernel.specs.Definitions.{Def, Within, whole}
 use Rattle.fp_kernel.specs.Start.{signature_of}
 use Rattle.fp_kernel.specs.Theorems.{Theorem}
-use Rattle.fp_logic.specs.Shapes.{left, right, binder_in, body_in, IsAbstraction}
+use Rattle.fp_forms.specs.Shapes.{left, right, binder_in, body_in, IsAbstraction}
 use Rattle.fp_logic.specs.Steps.{plain, by_both, CanCombine, combined}
 use Rattle.fp_quant.specs.Existence.{IsPredicate}
 

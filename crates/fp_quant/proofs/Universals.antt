@@ -13,7 +13,7 @@ use Rattle.fp_kernel.specs.Definitions.{Def, Within, whole}
 use Rattle.fp_kernel.specs.Start.{signature_of, connective_numbered}
 use Rattle.fp_kernel.specs.Derivability.{IsFormula}
 use Rattle.fp_kernel.specs.Theorems.{Theorem, IsTheorem, stands, from_one}
-use Rattle.fp_logic.specs.Shapes.{side_type, left, right, IsEquation}
+use Rattle.fp_forms.specs.Shapes.{side_type, left, right, IsEquation}
 use Rattle.fp_logic.specs.Steps.{plain, by_one, CanUnfold}
 use Rattle.fp_logic.proofs.Turning.{lifted, lifted_sides}
 use Rattle.fp_quant.specs.Meanings.{always, universal_at, CanAbstract, abstractions}

@@ -1,7 +1,7 @@
 -- What is derived of `?` once.
 use Rattle.fp_term.specs.Terms.{Tm}
 use Rattle.fp_conclude.specs.Logic.{alpha, implication}
-use Rattle.fp_logic.specs.Schemas.{q_variable}
+use Rattle.fp_forms.specs.Schemas.{q_variable}
 use Rattle.fp_quant.specs.Existence.{predicate_variable, holds, some_such, reaches, each_chosen}
 use Rattle.fp_quant.specs.declared.kept.Schema.{Schema}
 use Rattle.fp_quant.specs.declared.kept.Schema.TheVariants.{Introduction, Elimination, Choice}

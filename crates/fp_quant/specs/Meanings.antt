@@ -9,7 +9,7 @@ use Rattle.fp_conclude.specs.Hypotheses.{occurs_in_any}
 use Rattle.fp_kernel.specs.Definitions.{Def, Within}
 use Rattle.fp_kernel.specs.Start.{signature_of}
 use Rattle.fp_kernel.specs.Theorems.{Theorem}
-use Rattle.fp_logic.specs.Shapes.{side_type, left, right, IsEquation}
+use Rattle.fp_forms.specs.Shapes.{side_type, left, right, IsEquation}
 
 -- `P = (%x. T)`, for a predicate on the type
 abbrev pub always : Typ → Tm → Tm

@@ -14,8 +14,8 @@ ghost use Rattle.fp_quant.specs.Existential.{existence_parts, witness_type, exis
 use crate::fault::{free_in_hyps, unknown_name};
 use crate::witness::{chosen, eliminated, witnessed};
 use fp_conclude::{RuleFault, differ, occurs, occurs_in_any, quantifier, without};
+use fp_forms::shapes::argument_in;
 use fp_kernel::{Defs, Thm};
-use fp_logic::shapes::argument_in;
 use fp_term::{Name, Node, Place, Signature, Term, Ty, open_with, same, type_of};
 use std::alloc::{AllocError, Global};
 

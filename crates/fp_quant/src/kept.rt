@@ -11,8 +11,8 @@ use crate::existence::{
     choice, each_implies, elimination, held, introduction, predicate_variable, some,
 };
 use fp_conclude::{alpha, apply, for_all, implication, select};
+use fp_forms::q_variable;
 use fp_kernel::{Defs, Thm};
-use fp_logic::holding::q_variable;
 use fp_term::Term;
 use std::alloc::{AllocError, Global};
 

@@ -12,10 +12,10 @@ ghost use Rattle.fp_quant.specs.Meanings.{always, universal_at};
 
 use crate::steps::{abstracted, for_alpha};
 use fp_conclude::abstraction;
+use fp_forms::shapes::left;
 use fp_kernel::{Defs, Thm};
 use fp_logic::equations::unfold;
 use fp_logic::holding::{convert, fold};
-use fp_logic::shapes::left;
 use fp_logic::steps::{definition, given, own, reduced};
 use fp_logic::truths::{true_equation, untrue};
 use fp_term::{Name, Term, Ty};

@@ -1,7 +1,7 @@
 use Rattle.std.proofs.Common.{refl}
 use Rattle.fp_conclude.specs.Logic.{truth_type, predicate_type}
 use Rattle.fp_kernel.specs.Definitions.{whole}
-use Rattle.fp_logic.specs.Schemas.{p_variable, q_variable}
+use Rattle.fp_forms.specs.Schemas.{p_variable, q_variable}
 use Rattle.fp_disjunction.specs.Schemas.{all_ways}
 use Rattle.fp_logic.proofs.Concrete.{at_start}
 use Rattle.fp_disjunction.proofs.disjunctions.disjunction_schema.Goals as goal

@@ -1,7 +1,7 @@
 use Rattle.std.proofs.Common.{◌≡◌, subst, sym}
 use Rattle.std.specs.Prelude.{codes, List}
 use Rattle.fp_kernel.specs.Definitions.{Def, Within, whole}
-use Rattle.fp_logic.specs.Shapes.{right}
+use Rattle.fp_forms.specs.Shapes.{right}
 use Rattle.fp_logic.proofs.Shaped.{joined}
 use Rattle.fp_disjunction.proofs.disjunctions.passed_on.Goals as goal
 

@@ -1,7 +1,7 @@
 use Rattle.std.proofs.Common.{◌∙◌, refl, ap}
 use Rattle.fp_term.specs.Terms.{Tm, app}
 use Rattle.fp_conclude.specs.Logic.{truth_type}
-use Rattle.fp_logic.specs.Schemas.{identity}
+use Rattle.fp_forms.specs.Schemas.{identity}
 use Rattle.fp_logic.proofs.Given.{Reduced, at_known, known_redex, known_typed}
 use Rattle.fp_disjunction.proofs.False.{identity_typed}
 use Rattle.fp_disjunction.proofs.falsity.identity_at.Goals as goal

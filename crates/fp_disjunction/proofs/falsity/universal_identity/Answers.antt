@@ -1,6 +1,6 @@
 use Rattle.std.proofs.Common.{refl}
 use Rattle.fp_conclude.specs.Logic.{truth_type, predicate_type}
-use Rattle.fp_logic.specs.Schemas.{identity}
+use Rattle.fp_forms.specs.Schemas.{identity}
 use Rattle.fp_logic.proofs.Concrete.{at_start}
 use Rattle.fp_disjunction.proofs.falsity.universal_identity.Goals as goal
 

@@ -5,7 +5,7 @@ use Rattle.fp_conclude.specs.Rules.{lam_of}
 use Rattle.fp_kernel.specs.Start.{signature_of}
 use Rattle.fp_kernel.specs.Theorems.{from_one}
 use Rattle.fp_disjunction.specs.Schemas.{always_true}
-use Rattle.fp_logic.specs.Shapes.{left}
+use Rattle.fp_forms.specs.Shapes.{left}
 use Rattle.fp_logic.specs.Steps.{plain}
 use Rattle.fp_logic.proofs.Given.{no_refusal, given_is}
 use Rattle.fp_disjunction.proofs.Joined.{over_plain, abstracted_gives}

@@ -3,7 +3,7 @@ use Rattle.std.specs.Prelude.{IfOk}
 use Rattle.fp_conclude.specs.Logic.{truth_type, true_constant, implication}
 use Rattle.fp_kernel.specs.Definitions.{whole}
 use Rattle.fp_kernel.specs.Theorems.{Theorem}
-use Rattle.fp_logic.specs.Schemas.{q_variable}
+use Rattle.fp_forms.specs.Schemas.{q_variable}
 use Rattle.fp_disjunction.specs.Schemas.{r_variable}
 use Rattle.fp_logic.proofs.Concrete.{at_start}
 use Rattle.fp_disjunction.proofs.Joined.{second_way_is}

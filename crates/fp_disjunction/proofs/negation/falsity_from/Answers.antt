@@ -1,7 +1,7 @@
 use Rattle.std.proofs.Common.{refl}
 use Rattle.fp_conclude.specs.Logic.{truth_type, conjunction, false_constant}
 use Rattle.fp_kernel.specs.Definitions.{whole}
-use Rattle.fp_logic.specs.Schemas.{p_variable}
+use Rattle.fp_forms.specs.Schemas.{p_variable}
 use Rattle.fp_logic.proofs.Concrete.{at_start}
 use Rattle.fp_disjunction.proofs.negation.falsity_from.Goals as goal
 

@@ -3,7 +3,7 @@ use Rattle.std.specs.Prelude.{IfOk}
 use Rattle.fp_term.specs.Terms.{Tm, app}
 use Rattle.fp_conclude.specs.Logic.{truth_type, predicate_type}
 use Rattle.fp_logic.specs.Steps.{plain}
-use Rattle.fp_logic.specs.Schemas.{p_variable, chooser}
+use Rattle.fp_forms.specs.Schemas.{p_variable, chooser}
 use Rattle.fp_logic.proofs.Given.{Reduced, at_known, known_redex, known_typed, same_app}
 use Rattle.fp_logic.proofs.Choosers.{once_typed, once_reduced}
 use Rattle.fp_logic.proofs.choosing.chosen_once.Goals as goal

@@ -1,6 +1,6 @@
 use Rattle.fp_conclude.specs.Logic.{truth_type, binary_type, equal}
 use Rattle.fp_logic.specs.Steps.{plain}
-use Rattle.fp_logic.specs.Schemas.{chooser}
+use Rattle.fp_forms.specs.Schemas.{chooser}
 use Rattle.fp_logic.proofs.Given.{at_known, known_typed}
 use Rattle.fp_logic.proofs.Choosers.{chooser_typed}
 use Rattle.fp_logic.proofs.choosing.own_chooser.Goals as goal

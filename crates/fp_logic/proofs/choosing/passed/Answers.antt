@@ -1,6 +1,6 @@
 use Rattle.std.proofs.Common.{◌∙◌, refl}
 use Rattle.fp_conclude.specs.Logic.{truth_type}
-use Rattle.fp_logic.specs.Schemas.{p_variable, q_variable, applying, chooser, choice}
+use Rattle.fp_forms.specs.Schemas.{p_variable, q_variable, applying, chooser, choice}
 use Rattle.fp_logic.proofs.Given.{Reduced, at_known, known_redex, known_typed, same_app}
 use Rattle.fp_logic.proofs.Choosers.{choice_typed}
 use Rattle.fp_logic.proofs.choosing.passed.Goals as goal

@@ -3,7 +3,7 @@ use Rattle.std.specs.Prelude.{IfOk}
 use Rattle.fp_term.specs.Terms.{Tm}
 use Rattle.fp_conclude.specs.Logic.{truth_type, true_constant, equal}
 use Rattle.fp_logic.specs.Steps.{plain}
-use Rattle.fp_logic.specs.Schemas.{choice}
+use Rattle.fp_forms.specs.Schemas.{choice}
 use Rattle.fp_logic.proofs.Concrete.{at_start}
 use Rattle.fp_logic.proofs.Choosers.{same_choice}
 use Rattle.fp_logic.proofs.choosing.truth_choice.Goals as goal

@@ -1,8 +1,8 @@
 use Rattle.std.proofs.Common.{refl}
 use Rattle.fp_conclude.specs.Logic.{truth_type}
 use Rattle.fp_kernel.specs.Definitions.{whole}
-use Rattle.fp_logic.specs.Lemmas.{equivalent}
-use Rattle.fp_logic.specs.Schemas.{p_variable, q_variable}
+use Rattle.fp_forms.specs.Lemmas.{equivalent}
+use Rattle.fp_forms.specs.Schemas.{p_variable, q_variable}
 use Rattle.fp_logic.proofs.Concrete.{at_start}
 use Rattle.fp_logic.proofs.derivations.exchange_schema.Goals as goal
 

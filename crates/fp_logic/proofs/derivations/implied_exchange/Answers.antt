@@ -1,6 +1,6 @@
 use Rattle.std.proofs.Common.{refl}
 use Rattle.fp_conclude.specs.Logic.{truth_type, conjunction}
-use Rattle.fp_logic.specs.Schemas.{p_variable, q_variable}
+use Rattle.fp_forms.specs.Schemas.{p_variable, q_variable}
 use Rattle.fp_logic.proofs.Concrete.{at_start}
 use Rattle.fp_logic.proofs.derivations.implied_exchange.Goals as goal
 

@@ -1,7 +1,7 @@
 use Rattle.std.proofs.Common.{◌≡◌, subst}
 use Rattle.std.specs.Prelude.{IfOk}
 use Rattle.fp_term.specs.Terms.{Tm}
-use Rattle.fp_logic.specs.Shapes.{right}
+use Rattle.fp_forms.specs.Shapes.{right}
 use Rattle.fp_logic.specs.Steps.{by_one}
 use Rattle.fp_logic.proofs.Turning.{lifted_sides, lifted_equality, swap_asks, swap_gives}
 use Rattle.fp_logic.proofs.equations.swap.Goals as goal

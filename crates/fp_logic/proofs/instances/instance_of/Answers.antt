@@ -3,7 +3,7 @@ use Rattle.fp_conclude.specs.Hypotheses.{all_replaced}
 use Rattle.fp_conclude.specs.Rules.{inst_of}
 use Rattle.fp_kernel.specs.Start.{signature_of}
 use Rattle.fp_kernel.specs.Theorems.{from_one}
-use Rattle.fp_logic.specs.Schemas.{in_place}
+use Rattle.fp_forms.specs.Schemas.{in_place}
 use Rattle.fp_logic.specs.Steps.{plain}
 use Rattle.fp_logic.proofs.Given.{no_refusal, given_is}
 use Rattle.fp_logic.proofs.Begun.{instance_over}

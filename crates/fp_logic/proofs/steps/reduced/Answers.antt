@@ -4,7 +4,7 @@ use Rattle.fp_conclude.specs.Rules.{beta_of}
 use Rattle.fp_kernel.specs.Start.{signature_of}
 use Rattle.fp_kernel.specs.Theorems.{stands}
 use Rattle.fp_logic.specs.Steps.{plain}
-use Rattle.fp_logic.specs.Shapes.{argument_in, body_in, function_in}
+use Rattle.fp_forms.specs.Shapes.{argument_in, body_in, function_in}
 use Rattle.fp_term.specs.Terms.{opened}
 use Rattle.fp_logic.proofs.Given.{no_refusal, reduced_gives, reduced_given}
 use Rattle.fp_logic.proofs.steps.reduced.Goals as goal

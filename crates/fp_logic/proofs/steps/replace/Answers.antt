@@ -1,6 +1,6 @@
 use Rattle.fp_conclude.specs.Rules.{eq_mp_of}
 use Rattle.fp_kernel.specs.Theorems.{from_both}
-use Rattle.fp_logic.specs.Shapes.{right}
+use Rattle.fp_forms.specs.Shapes.{right}
 use Rattle.fp_logic.specs.Steps.{by_both}
 use Rattle.fp_logic.proofs.Given.{no_refusal, given_is, replace_gives}
 use Rattle.fp_logic.proofs.steps.replace.Goals as goal

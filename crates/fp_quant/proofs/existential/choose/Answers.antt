@@ -1,5 +1,5 @@
 use Rattle.std.proofs.Common.{◌≡◌, ◌∙◌, sym, ap}
-use Rattle.fp_logic.specs.Shapes.{argument_in}
+use Rattle.fp_forms.specs.Shapes.{argument_in}
 use Rattle.fp_quant.proofs.Chosen.{choose_existence}
 use Rattle.fp_quant.proofs.existential.choose.Goals as goal
 

@@ -1,7 +1,7 @@
 use Rattle.std.proofs.Common.{◌≡◌, ◌∙◌, refl, ap}
 use Rattle.fp_kernel.specs.Definitions.{whole}
 use Rattle.fp_kernel.specs.Theorems.{Theorem}
-use Rattle.fp_logic.specs.Shapes.{left}
+use Rattle.fp_forms.specs.Shapes.{left}
 use Rattle.fp_quant.proofs.universal.applied_to.Goals as goal
 
 pub untrue-requires-clause-within : goal.untrue-requires-clause-within

@@ -1,7 +1,7 @@
 //! The parts of formulas by their connective.
 ghost use Rattle.std.specs.Prelude.{◌≡◌, Some, None, IfOk, IsTrue, MatchOption};
 ghost use Rattle.fp_term.specs.Names.{is_name};
-ghost use Rattle.fp_logic.specs.Forms.{parts_by, conjunction_parts, implication_parts};
+ghost use Rattle.fp_forms.specs.Forms.{parts_by, conjunction_parts, implication_parts};
 
 use fp_conclude::connective;
 use fp_term::{Node, Term, same};

@@ -2,9 +2,9 @@
 use Rattle.std.specs.Prelude.{Bool}
 use Rattle.fp_term.specs.Terms.{Tm}
 use Rattle.fp_conclude.specs.Logic.{truth_type, equal, true_constant, conjunction, implication}
-use Rattle.fp_logic.specs.Schemas.{p_variable, q_variable, held, both_true, choice, chosen, implied}
-use Rattle.fp_logic.specs.declared.lemmas.Lemma.{Lemma}
-use Rattle.fp_logic.specs.declared.lemmas.Lemma.TheVariants.{Truth, Held, Truthful, Untrue, Conjoined, Truths, Choice, Implied, Turned, Folded}
+use Rattle.fp_forms.specs.Schemas.{p_variable, q_variable, held, both_true, choice, chosen, implied}
+use Rattle.fp_forms.specs.declared.lemma.Lemma.{Lemma}
+use Rattle.fp_forms.specs.declared.lemma.Lemma.TheVariants.{Truth, Held, Truthful, Untrue, Conjoined, Truths, Choice, Implied, Turned, Folded}
 
 abbrev pub equivalent : Tm → Tm → Tm
 equivalent p q = equal truth_type p q

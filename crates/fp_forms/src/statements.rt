@@ -1,19 +1,27 @@
 //! What the lemmas state.
 ghost use Rattle.std.specs.Prelude.{◌≡◌, IfOk};
-ghost use Rattle.fp_conclude.specs.Logic.{truth_type, predicate_type, binary_type, equal, true_constant, conjunction, implication};
-ghost use Rattle.fp_logic.specs.Lemmas.{equivalent, statement_of};
-ghost use Rattle.fp_logic.specs.Schemas.{p_variable, q_variable, applying, both_true, implied, choice, chosen};
-ghost use Rattle.fp_logic.specs.declared.lemmas.Lemma.TheVariants.{Held, Truthful, Untrue, Conjoined, Truths, Choice, Implied, Turned, Folded};
+ghost use Rattle.fp_conclude.specs.Logic.{truth_type, true_constant, conjunction, implication};
+ghost use Rattle.fp_forms.specs.Lemmas.{equivalent, statement_of};
+ghost use Rattle.fp_forms.specs.Schemas.{p_variable, q_variable, identity, held, applying, both_true, implied, choice, chosen};
+ghost use Rattle.fp_forms.specs.declared.lemma.Lemma.TheVariants.{Held, Truthful, Untrue, Conjoined, Truths, Choice, Implied, Turned, Folded};
 
-use crate::choosing::{applying, chooser};
-use crate::holding::{p_variable, q_variable};
-use crate::lemmas::Lemma;
+use crate::choosers::{applying, chooser};
+use crate::lemma::Lemma;
+use crate::variables::{p_variable, q_variable};
 use fp_conclude::{
-    apply, binary_truth, conjunction, equation, implication, predicate_over, true_constant,
-    truth_type,
+    abstraction, apply, binary_truth, conjunction, equation, implication, predicate_over,
+    true_constant, truth_type,
 };
 use fp_term::Term;
 use std::alloc::{AllocError, Global};
+
+/// `%p. p`
+pub fn identity(alloc: Global) -> Result<Term, AllocError>
+    ensures { IfOk result (λ t. t ≡ identity) }
+{
+    let body = Term::bound(alloc, 0)?;
+    abstraction(alloc, &truth_type(alloc)?, &body)
+}
 
 /// `left = right`, for formulas.
 pub fn equivalent(alloc: Global, left: &Term, right: &Term) -> Result<Term, AllocError>
@@ -23,13 +31,21 @@ pub fn equivalent(alloc: Global, left: &Term, right: &Term) -> Result<Term, Allo
     equation(alloc, &ty, left, right)
 }
 
+/// `T = p`
+pub fn held_variable(alloc: Global) -> Result<Term, AllocError>
+    ensures { IfOk result (λ t. t ≡ held p_variable) }
+{
+    let truth = true_constant(alloc)?;
+    let variable = p_variable(alloc)?;
+    equivalent(alloc, &truth, &variable)
+}
+
 // `p = (T = p)`
 fn held_is(alloc: Global) -> Result<Term, AllocError>
     ensures { IfOk result (λ t. t ≡ statement_of Held) }
 {
-    let truth = true_constant(alloc)?;
     let variable = p_variable(alloc)?;
-    let held = equivalent(alloc, &truth, &variable)?;
+    let held = held_variable(alloc)?;
     equivalent(alloc, &variable, &held)
 }
 

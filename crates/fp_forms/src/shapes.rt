@@ -1,6 +1,6 @@
 //! The parts of terms of a known form.
 ghost use Rattle.std.specs.Prelude.{◌≡◌};
-ghost use Rattle.fp_logic.specs.Shapes.{function_in, argument_in};
+ghost use Rattle.fp_forms.specs.Shapes.{function_in, argument_in};
 
 use fp_term::{Node, Term};
 
