@@ -3,3 +3,4 @@ pub mod Meanings
 pub mod Existential
 pub mod Existence
 pub mod Kept
+pub mod Extensional

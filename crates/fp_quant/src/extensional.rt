@@ -1,18 +1,17 @@
 //! `ext`. Primitive steps: 14.
-ghost use Rattle.std.specs.Prelude.{◌≡◌, ◌||◌, false, codes, IfOk};
+ghost use Rattle.std.specs.Prelude.{◌≡◌, false, codes, IfOk};
 ghost use Rattle.std.specs.Option.{option_copied};
-ghost use Rattle.fp_term.specs.Terms.{free, app, abs};
+ghost use Rattle.fp_term.specs.Terms.{free};
 ghost use Rattle.fp_term.specs.Typing.{function_type};
 ghost use Rattle.fp_term.specs.Signatures.{IsType, IsWellTyped};
-ghost use Rattle.fp_conclude.specs.Logic.{equal};
 ghost use Rattle.fp_conclude.specs.Hypotheses.{occurs, occurs_in_any};
 ghost use Rattle.fp_conclude.specs.Outcomes.{Answers};
 ghost use Rattle.fp_kernel.specs.Definitions.{Within};
 ghost use Rattle.fp_kernel.specs.Start.{signature_of};
 ghost use Rattle.fp_kernel.specs.Theorems.{from_one};
-ghost use Rattle.fp_forms.specs.Shapes.{side_type, left, right, IsEquation};
 ghost use Rattle.fp_logic.specs.Steps.{plain, by_one};
-ghost use Rattle.fp_quant.specs.Meanings.{eta_at, expansion};
+ghost use Rattle.fp_quant.specs.Extensional.{type_of, alike_at, left_expanded, both_expanded, right_expanded, alike, is_free};
+ghost use Rattle.fp_quant.specs.Meanings.{eta_at};
 ghost use Rattle.fp_quant.specs.Universal.{applied_to_variable, ext_of};
 
 use crate::fault::{free_in_hyps, unknown_name};
@@ -74,8 +73,8 @@ struct Functions<'a> {
 
 // `f = (%x. f x)`, for the first function.
 fn expanded(alloc: Global, defs: &Defs, functions: &Functions<'_>) -> Result<Thm, AllocError>
-    requires { IsWellTyped (signature_of defs.now) functions.now.left.now (function_type functions.now.from.now functions.now.to.now) }
-    ensures { IfOk result (λ th. th ≡ plain defs.now (equal (function_type functions.now.from.now functions.now.to.now) functions.now.left.now (expansion functions.now.from.now functions.now.left.now))) }
+    requires { IsWellTyped (signature_of defs.now) functions.now.left.now (type_of functions.now) }
+    ensures { IfOk result (λ th. th ≡ plain defs.now (left_expanded functions.now)) }
 {
     let ty = functions_type(alloc, functions.from, functions.to)?;
     let eta = eta(alloc, defs, functions.from, functions.to, functions.left)?;
@@ -90,9 +89,9 @@ fn left_reduced(
     th: &Thm,
 ) -> Result<Thm, AllocError>
     requires within { Within th.now.defs defs.now }
-    requires typed { IsWellTyped (signature_of defs.now) functions.now.left.now (function_type functions.now.from.now functions.now.to.now) }
-    requires shape { th.now.concl ≡ equal (function_type functions.now.from.now functions.now.to.now) (expansion functions.now.from.now functions.now.left.now) (expansion functions.now.from.now functions.now.right.now) }
-    ensures { IfOk result (λ r. r ≡ by_one defs.now th.now (equal (function_type functions.now.from.now functions.now.to.now) functions.now.left.now (expansion functions.now.from.now functions.now.right.now))) }
+    requires typed { IsWellTyped (signature_of defs.now) functions.now.left.now (type_of functions.now) }
+    requires shape { th.now.concl ≡ both_expanded functions.now }
+    ensures { IfOk result (λ r. r ≡ by_one defs.now th.now (right_expanded functions.now)) }
 {
     let _hyps = th.hyps();
     let _promises = th.promises();
@@ -108,9 +107,9 @@ fn right_reduced(
     th: &Thm,
 ) -> Result<Thm, AllocError>
     requires within { Within th.now.defs defs.now }
-    requires typed { IsWellTyped (signature_of defs.now) functions.now.right.now (function_type functions.now.from.now functions.now.to.now) }
-    requires shape { th.now.concl ≡ equal (function_type functions.now.from.now functions.now.to.now) functions.now.left.now (expansion functions.now.from.now functions.now.right.now) }
-    ensures { IfOk result (λ r. r ≡ by_one defs.now th.now (equal (function_type functions.now.from.now functions.now.to.now) functions.now.left.now functions.now.right.now)) }
+    requires typed { IsWellTyped (signature_of defs.now) functions.now.right.now (type_of functions.now) }
+    requires shape { th.now.concl ≡ right_expanded functions.now }
+    ensures { IfOk result (λ r. r ≡ by_one defs.now th.now (alike functions.now)) }
 {
     let eta = eta(alloc, defs, functions.from, functions.to, functions.right)?;
     chain(alloc, defs, th, &eta)
@@ -126,11 +125,11 @@ fn extended(
 ) -> Result<Thm, AllocError>
     requires within { Within a.now.defs defs.now }
     requires known { IsType (signature_of defs.now) functions.now.from.now }
-    requires shape { a.now.concl ≡ equal functions.now.to.now (app functions.now.left.now (free name.now functions.now.from.now)) (app functions.now.right.now (free name.now functions.now.from.now)) }
+    requires shape { a.now.concl ≡ alike_at name.now functions.now }
     requires left { occurs name.now functions.now.from.now functions.now.left.now ≡ false }
     requires right { occurs name.now functions.now.from.now functions.now.right.now ≡ false }
     requires hyps { occurs_in_any name.now functions.now.from.now a.now.hyps ≡ false }
-    ensures { IfOk result (λ th. th ≡ by_one defs.now a.now (equal (function_type functions.now.from.now functions.now.to.now) functions.now.left.now functions.now.right.now)) }
+    ensures { IfOk result (λ th. th ≡ by_one defs.now a.now (alike functions.now)) }
 {
     let _concl = a.concl();
     let alike = abstracted(alloc, defs, name, functions.from, a)?;
@@ -160,7 +159,7 @@ fn applied_to_variable<'a>(
 
 // Is the variable free in one of the functions or in a hypothesis?
 fn is_free(name: &Name, functions: &Functions<'_>, hyps: &[Term]) -> bool
-    ensures { result ≡ (occurs name.now functions.now.from.now functions.now.left.now || occurs name.now functions.now.from.now functions.now.right.now || occurs_in_any name.now functions.now.from.now hyps.now) }
+    ensures { result ≡ is_free name.now functions.now hyps.now }
 {
     occurs(name, functions.from, functions.left)
         || occurs(name, functions.from, functions.right)
