@@ -84,9 +84,6 @@ module _ (defs : List Def) (p : List (ℕ × Tm)) (h : List Tm) (l r : Tm) where
   itself_rewritten {t = t} (Ok th) d e = record { result = t; rewrites = d; equates = e }
   itself_rewritten (Err f) d e = tt
 
-pub never_of : (h : List Tm) (l t u : Tm) → t ≡ u → (Instance h l t → ⊥) → Instance h l u → ⊥
-never_of h l t u is never i = never (rw is i)
-
 pub simple_unchanged : (h : List Tm) (l r t u : Tm) → t ≡ u → (Instance h l t → ⊥) → is_simple u ≡ true → Rewrites h l r t t
 simple_unchanged h l r t u is never e = nowhere never (rw is e)
 

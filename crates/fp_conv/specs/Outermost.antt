@@ -4,6 +4,7 @@ use Rattle.fp_term.specs.Types.{Typ}
 use Rattle.fp_term.specs.Terms.{Tm, free, app, abs, term_eq, opened, closed, replaced, retyped_term}
 use Rattle.fp_term.specs.Variables.{is_among, free_names}
 use Rattle.fp_match.specs.Instances.{IsInstanceBy, AreOwn}
+use Rattle.fp_conclude.specs.Logic.{truth_type}
 use Rattle.fp_conclude.specs.Hypotheses.{union}
 use Rattle.fp_conclude.specs.Outcomes.{Outcome, gives, with_part, not_equation}
 use Rattle.fp_conclude.specs.Parts.{equation}
@@ -38,6 +39,10 @@ pub record Instance (hyps : List Tm) (left t : Tm) : Type 0 where
 abbrev pub is_used : List ℕ → List Tm → Bool
 is_used name [] = false
 is_used name (t ∷ ts) = is_among (free_names t) name || is_used name ts
+
+-- a formula for the variable of that name
+abbrev pub for_variable : List ℕ → Tm → List (List ℕ × Typ × Tm)
+for_variable name p = (name, truth_type, p) ∷ []
 
 -- it is neither an application nor an abstraction
 abbrev pub is_simple : Tm → Bool

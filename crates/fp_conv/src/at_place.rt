@@ -1,4 +1,4 @@
-ghost use Rattle.std.specs.Prelude.{◌≡◌, ◌||◌, false, Some, IfOk};
+ghost use Rattle.std.specs.Prelude.{◌≡◌, ◌∷◌, ◌||◌, ℕ, false, Some, IfOk};
 ghost use Rattle.std.specs.Option.{option_copied};
 ghost use Rattle.fp_term.specs.Types.{Typ};
 ghost use Rattle.fp_term.specs.Terms.{free, abs, opened};
@@ -74,7 +74,32 @@ fn closed_again(
     abstracted(alloc, defs, &opening.0, ty, &inner)
 }
 
+// The abstraction is equal to the one with the equation's right side at the place in its body.
+#[cycle(rewritten)]
+fn in_abstraction(
+    alloc: Global,
+    defs: &Defs,
+    rest: &[u8],
+    eq: &Thm,
+    sides: &Equation<'_>,
+    ty: &Ty,
+    body: &Term,
+    depth: u32,
+) -> Result<Thm, AllocError>
+    requires within { Within eq.now.defs defs.now }
+    requires equation { eq.now.concl ≡ equal sides.now.ty.now sides.now.left.now sides.now.right.now }
+    requires typed { IsTyped (signature_of defs.now) (abs ty.now body.now) }
+    requires there { (step : ℕ) × (subterm_at (step ∷ rest.now) (abs ty.now body.now) ≡ Some sides.now.left.now) }
+    ensures { IfOk result (Equates defs.now eq.now.promises eq.now.hyps (abs ty.now body.now) (abs ty.now (put_at rest.now sides.now.right.now body.now))) }
+{
+    let opening = opening(alloc, depth, ty, body, eq.concl(), eq.hyps())?;
+    let next = depth.saturating_add(1);
+    let inner = rewritten(alloc, defs, rest, eq, sides, &opening.1, next)?;
+    closed_again(alloc, defs, rest, eq, sides, ty, body, opening, inner)
+}
+
 // The term is equal to the one with the equation's right side at the place.
+#[cycle(rewritten)]
 fn rewritten(
     alloc: Global,
     defs: &Defs,
@@ -101,19 +126,7 @@ fn rewritten(
             let inner = rewritten(alloc, defs, rest, eq, sides, arg, depth)?;
             with_function(alloc, defs, fun, arg, &inner)
         },
-        Node::Abs { ty, body } => {
-            let opening = opening(alloc, depth, ty, body, eq.concl(), eq.hyps())?;
-            let inner = rewritten(
-                alloc,
-                defs,
-                rest,
-                eq,
-                sides,
-                &opening.1,
-                depth.saturating_add(1),
-            )?;
-            closed_again(alloc, defs, rest, eq, sides, ty, body, opening, inner)
-        }
+        Node::Abs { ty, body } => in_abstraction(alloc, defs, rest, eq, sides, ty, body, depth),
         _ => unreachable!(),
     }
 }

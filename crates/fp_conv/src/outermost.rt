@@ -1,13 +1,15 @@
 ghost use Rattle.std.specs.Prelude.{◌≡◌, false, ◌∷◌, IfOk, IfErr};
 ghost use Rattle.fp_term.specs.Terms.{free, app, abs, opened};
 ghost use Rattle.fp_conclude.specs.Logic.{truth_type, equal};
-ghost use Rattle.fp_conclude.specs.Hypotheses.{occurs_in_any};
-ghost use Rattle.fp_conclude.specs.Outcomes.{FaultIs};
+ghost use Rattle.fp_conclude.specs.Hypotheses.{occurs_in_any, all_replaced};
+ghost use Rattle.fp_conclude.specs.Outcomes.{FaultIs, gives};
+ghost use Rattle.fp_conclude.specs.Rules.{inst_of};
 ghost use Rattle.fp_kernel.specs.Definitions.{Within};
 ghost use Rattle.fp_kernel.specs.Derivability.{IsFormula};
 ghost use Rattle.fp_kernel.specs.Start.{signature_of};
-ghost use Rattle.fp_conv.specs.Equations.{IsTyped, Equates};
-ghost use Rattle.fp_conv.specs.Outermost.{Instance, Rewritten, Determined, Stays, Becomes, StaysOrBecomes, is_used, sides_of};
+ghost use Rattle.fp_kernel.specs.Theorems.{from_one};
+ghost use Rattle.fp_conv.specs.Equations.{IsTyped, IsGiven, Equates};
+ghost use Rattle.fp_conv.specs.Outermost.{Instance, Rewritten, Determined, Stays, Becomes, StaysOrBecomes, for_variable, is_used, sides_of};
 
 use crate::fresh::{unused, unused_opening};
 use crate::instances::at_instance;
@@ -113,7 +115,78 @@ fn closed_again(
     }
 }
 
+// What an application becomes.
+#[cycle(rewritten)]
+fn application(
+    alloc: Global,
+    defs: &Defs,
+    eq: &Thm,
+    sides: &Equation<'_>,
+    fun: &Term,
+    arg: &Term,
+    depth: u32,
+) -> Result<Option<Thm>, AllocError>
+    requires within { Within eq.now.defs defs.now }
+    requires equation { eq.now.concl ≡ equal sides.now.ty.now sides.now.left.now sides.now.right.now }
+    requires typed { IsTyped (signature_of defs.now) (app fun.now arg.now) }
+    requires none { Instance eq.now.hyps sides.now.left.now (app fun.now arg.now) → ⊥ }
+    ensures { IfOk result (StaysOrBecomes defs.now eq.now sides.now (app fun.now arg.now)) }
+{
+    let functions = rewritten(alloc, defs, eq, sides, fun, depth)?;
+    let arguments = rewritten(alloc, defs, eq, sides, arg, depth)?;
+    applied(alloc, defs, eq, sides, fun, arg, &functions, &arguments)
+}
+
+// What an abstraction becomes.
+#[cycle(rewritten)]
+fn abstraction(
+    alloc: Global,
+    defs: &Defs,
+    eq: &Thm,
+    sides: &Equation<'_>,
+    ty: &Ty,
+    body: &Term,
+    depth: u32,
+) -> Result<Option<Thm>, AllocError>
+    requires within { Within eq.now.defs defs.now }
+    requires equation { eq.now.concl ≡ equal sides.now.ty.now sides.now.left.now sides.now.right.now }
+    requires typed { IsTyped (signature_of defs.now) (abs ty.now body.now) }
+    requires none { Instance eq.now.hyps sides.now.left.now (abs ty.now body.now) → ⊥ }
+    ensures { IfOk result (StaysOrBecomes defs.now eq.now sides.now (abs ty.now body.now)) }
+{
+    let opening = unused_opening(alloc, depth, ty, body, sides, eq.hyps())?;
+    let next = depth.saturating_add(1);
+    let inner = rewritten(alloc, defs, eq, sides, &opening.1, next)?;
+    closed_again(alloc, defs, eq, sides, ty, body, &opening, &inner)
+}
+
+// What a term becomes that is no instance.
+#[cycle(rewritten)]
+fn inside(
+    alloc: Global,
+    defs: &Defs,
+    eq: &Thm,
+    sides: &Equation<'_>,
+    term: &Term,
+    depth: u32,
+) -> Result<Option<Thm>, AllocError>
+    requires within { Within eq.now.defs defs.now }
+    requires equation { eq.now.concl ≡ equal sides.now.ty.now sides.now.left.now sides.now.right.now }
+    requires typed { IsTyped (signature_of defs.now) term.now }
+    requires none { Instance eq.now.hyps sides.now.left.now term.now → ⊥ }
+    ensures { IfOk result (StaysOrBecomes defs.now eq.now sides.now term.now) }
+{
+    match term.node() {
+        Node::App { fun, arg } => application(alloc, defs, eq, sides, fun, arg, depth),
+        Node::Abs { ty, body } => abstraction(alloc, defs, eq, sides, ty, body, depth),
+        Node::Bound(_) => Ok(None),
+        Node::Free { .. } => Ok(None),
+        Node::Const { .. } => Ok(None),
+    }
+}
+
 // The equation of the term with what it becomes, where it doesn't stay as it is.
+#[cycle(rewritten)]
 fn rewritten(
     alloc: Global,
     defs: &Defs,
@@ -129,22 +202,7 @@ fn rewritten(
 {
     match at_instance(alloc, defs, eq, sides, term)? {
         Some(made) => Ok(Some(made)),
-        None => match term.node() {
-            Node::App { fun, arg } => {
-                let functions = rewritten(alloc, defs, eq, sides, fun, depth)?;
-                let arguments = rewritten(alloc, defs, eq, sides, arg, depth)?;
-                applied(alloc, defs, eq, sides, fun, arg, &functions, &arguments)
-            }
-            Node::Abs { ty, body } => {
-                let opening = unused_opening(alloc, depth, ty, body, sides, eq.hyps())?;
-                let next = depth.saturating_add(1);
-                let inner = rewritten(alloc, defs, eq, sides, &opening.1, next)?;
-                closed_again(alloc, defs, eq, sides, ty, body, &opening, &inner)
-            }
-            Node::Bound(_) => Ok(None),
-            Node::Free { .. } => Ok(None),
-            Node::Const { .. } => Ok(None),
-        },
+        None => inside(alloc, defs, eq, sides, term, depth),
     }
 }
 
@@ -182,6 +240,22 @@ fn pair(alloc: Global, name: &Name, formula: &Term) -> Result<(Name, Ty, Term), 
     Ok((name.copy()?, truth_type(alloc)?, formula.copy()?))
 }
 
+// The theorem with the formula in place of that variable.
+fn with_formula(
+    alloc: Global,
+    defs: &Defs,
+    th: &Thm,
+    name: &Name,
+    formula: &Term,
+) -> Result<Thm, AllocError>
+    requires within { Within th.now.defs defs.now }
+    requires given { IsGiven (from_one defs.now th.now (all_replaced (for_variable name.now formula.now) th.now.hyps) (inst_of (signature_of defs.now) (for_variable name.now formula.now) th.now.concl)) }
+    ensures { IfOk result (λ i. from_one defs.now th.now (all_replaced (for_variable name.now formula.now) th.now.hyps) (inst_of (signature_of defs.now) (for_variable name.now formula.now) th.now.concl) ≡ gives i) }
+{
+    let pairs = [pair(alloc, name, formula)?];
+    replaced(alloc, defs, th, &pairs)
+}
+
 // `p = p` from the hypotheses and promises of the theorem, in which the variable isn't free.
 fn carried(
     alloc: Global,
@@ -198,8 +272,7 @@ fn carried(
     eq.hyps();
     let variable = variable(alloc, name)?;
     let th = held(alloc, defs, eq, name, &variable)?;
-    let pairs = [pair(alloc, name, formula)?];
-    replaced(alloc, defs, &th, &pairs)
+    with_formula(alloc, defs, &th, name, formula)
 }
 
 // `p = p` from the hypotheses and promises of the theorem.

@@ -1,12 +1,13 @@
-use Rattle.std.proofs.Common.{◌∙◌, sym, ap, arith}
+use Rattle.std.proofs.Common.{◌∙◌, ◌∷◌, refl, sym, ap, arith}
+use Rattle.fp_term.specs.Terms.{abs}
 use Rattle.fp_term.specs.TermView.{seen}
 use Rattle.fp_kernel.specs.Start.{signature_of}
 use Rattle.fp_conv.proofs.Rewriting.{argument_typed, argument_there, function_there, body_typed, body_there, own_parts, rewritten_in_function, rewritten_in_argument, rewritten_in_body}
 use Rattle.fp_conv.proofs.Reduced.{function_typed, whole_typed}
 use Rattle.fp_conv.proofs.at_place.+rewritten.Goals as goal
 
-pub rewritten-requires : goal.rewritten-requires
-rewritten-requires t c =
+pub rewritten-rewritten-requires : goal.rewritten-rewritten-requires
+rewritten-rewritten-requires t c =
     let is = sym c.node.ensures ∙ ap seen c.in-App.is in
     let g = signature_of c.args.defs.now in (
       omega (arith, c.in-Some.ensures.cases.1),
@@ -22,14 +23,14 @@ rewritten-requires t c =
       ),
     )
 
-pub with_argument-requires-clause-equation : goal.with_argument-requires-clause-equation
-with_argument-requires-clause-equation t c = own_parts c.in_ok-inner-in-App.ensures
+pub rewritten-with_argument-requires-clause-equation : goal.rewritten-with_argument-requires-clause-equation
+rewritten-with_argument-requires-clause-equation t c = own_parts c.in_ok-inner-in-App.ensures
 
-pub with_argument-requires-clause-typed : goal.with_argument-requires-clause-typed
-with_argument-requires-clause-typed t c = whole_typed (signature_of c.args.defs.now) c.args.term.now _ (sym c.node.ensures ∙ ap seen c.in-App.is) c.requires.typed
+pub rewritten-with_argument-requires-clause-typed : goal.rewritten-with_argument-requires-clause-typed
+rewritten-with_argument-requires-clause-typed t c = whole_typed (signature_of c.args.defs.now) c.args.term.now _ (sym c.node.ensures ∙ ap seen c.in-App.is) c.requires.typed
 
-pub rewritten-requires-else-step-eq0 : goal.rewritten-requires-else-step-eq0
-rewritten-requires-else-step-eq0 t c =
+pub rewritten-rewritten-requires-else-step-eq0 : goal.rewritten-rewritten-requires-else-step-eq0
+rewritten-rewritten-requires-else-step-eq0 t c =
     let is = sym c.node.ensures ∙ ap seen c.in-App.is in
     let g = signature_of c.args.defs.now in (
       omega (arith, c.in-Some.ensures.cases.1),
@@ -45,57 +46,68 @@ rewritten-requires-else-step-eq0 t c =
       ),
     )
 
-pub with_function-requires-clause-equation : goal.with_function-requires-clause-equation
-with_function-requires-clause-equation t c = own_parts c.in_ok-inner-in-App-2.ensures
+pub rewritten-with_function-requires-clause-equation : goal.rewritten-with_function-requires-clause-equation
+rewritten-with_function-requires-clause-equation t c = own_parts c.in_ok-inner-in-App-2.ensures
 
-pub with_function-requires-clause-typed : goal.with_function-requires-clause-typed
-with_function-requires-clause-typed t c = whole_typed (signature_of c.args.defs.now) c.args.term.now _ (sym c.node.ensures ∙ ap seen c.in-App.is) c.requires.typed
+pub rewritten-with_function-requires-clause-typed : goal.rewritten-with_function-requires-clause-typed
+rewritten-with_function-requires-clause-typed t c = whole_typed (signature_of c.args.defs.now) c.args.term.now _ (sym c.node.ensures ∙ ap seen c.in-App.is) c.requires.typed
 
-pub rewritten-requires-in-Abs : goal.rewritten-requires-in-Abs
-rewritten-requires-in-Abs t c =
-    let is = sym c.node.ensures ∙ ap seen c.in-Abs.is in
+pub rewritten-returns-in_ok-inner-in-App : goal.rewritten-returns-in_ok-inner-in-App
+rewritten-returns-in_ok-inner-in-App t c =
+    rewritten_in_function c.with_argument.result c.args.steps.now c.in-Some.rest.now c.in-Some.step.now c.args.term.now c.args.sides.now.right.now c.in-App.fun c.in-App.arg
+    c.in-Some.ensures.cases.0 c.if-step-eq0.true (sym c.node.ensures ∙ ap seen c.in-App.is) c.in_ok-inner-in-App.ensures c.with_argument.ensures
+
+pub rewritten-returns-in_ok-inner-in-App-2 : goal.rewritten-returns-in_ok-inner-in-App-2
+rewritten-returns-in_ok-inner-in-App-2 t c =
+    rewritten_in_argument c.with_function.result c.args.steps.now c.in-Some.rest.now c.in-Some.step.now c.args.term.now c.args.sides.now.right.now c.in-App.fun c.in-App.arg
+    c.in-Some.ensures.cases.0 c.if-step-eq0.false (sym c.node.ensures ∙ ap seen c.in-App.is) c.in_ok-inner-in-App-2.ensures c.with_function.ensures
+
+pub in_abstraction-rewritten-requires : goal.in_abstraction-rewritten-requires
+in_abstraction-rewritten-requires t c =
     let e = c.args.sides.now in
-    let p = c.in_ok-opening-in-Abs.opening in (
+    let p = c.in_ok-opening.opening in
+    let whole = abs c.args.ty.now c.args.body.now in
+    let step = c.requires.there.0 in (
+      omega arith,
+      (
+        c.requires.within,
+        (
+          c.requires.equation,
+          (
+            body_typed (signature_of c.args.defs.now) whole p.1 p.0 c.args.ty.now c.args.body.now refl c.in_ok-opening.ensures.opened c.requires.typed,
+            body_there c.args.defs.now c.args.eq.now e.ty.now e.left.now e.right.now c.requires.within c.concl.ensures.derived c.requires.equation p.0 c.args.ty.now c.args.body.now
+                (step ∷ c.args.rest.now) c.args.rest.now step whole p.1 refl refl c.in_ok-opening.ensures.opened c.requires.there.1,
+          ),
+        ),
+      ),
+    )
+
+pub in_abstraction-closed_again-requires-clause-apart : goal.in_abstraction-closed_again-requires-clause-apart
+in_abstraction-closed_again-requires-clause-apart t c = rw (c.concl.ensures.value, c.hyps.ensures.value) at c.in_ok-opening.ensures.apart
+
+pub in_abstraction-closed_again-requires-clause-opened : goal.in_abstraction-closed_again-requires-clause-opened
+in_abstraction-closed_again-requires-clause-opened t c = c.in_ok-opening.ensures.opened
+
+pub in_abstraction-closed_again-requires-clause-inner : goal.in_abstraction-closed_again-requires-clause-inner
+in_abstraction-closed_again-requires-clause-inner t c = c.in_ok-inner.ensures
+
+pub rewritten-in_abstraction-requires : goal.rewritten-in_abstraction-requires
+rewritten-in_abstraction-requires t c =
+    let is = sym c.node.ensures ∙ ap seen c.in-Abs.is in (
       omega (arith, c.in-Some.ensures.cases.1),
       (
         c.requires.within,
         (
           c.requires.equation,
           (
-            body_typed (signature_of c.args.defs.now) c.args.term.now p.1 p.0 c.in-Abs.ty c.in-Abs.body is c.in_ok-opening-in-Abs.ensures.opened c.requires.typed,
-            body_there c.args.defs.now c.args.eq.now e.ty.now e.left.now e.right.now c.requires.within c.concl.ensures.derived c.requires.equation p.0 c.in-Abs.ty c.in-Abs.body
-                c.args.steps.now c.in-Some.rest.now c.in-Some.step.now c.args.term.now p.1 c.in-Some.ensures.cases.0 is c.in_ok-opening-in-Abs.ensures.opened c.requires.there,
+            whole_typed (signature_of c.args.defs.now) c.args.term.now _ is c.requires.typed,
+            (c.in-Some.step.now, rw (c.in-Some.ensures.cases.0, is) at c.requires.there),
           ),
         ),
       ),
     )
 
-pub closed_again-requires-clause-typed : goal.closed_again-requires-clause-typed
-closed_again-requires-clause-typed t c = whole_typed (signature_of c.args.defs.now) c.args.term.now _ (sym c.node.ensures ∙ ap seen c.in-Abs.is) c.requires.typed
-
-pub closed_again-requires-clause-equation : goal.closed_again-requires-clause-equation
-closed_again-requires-clause-equation t c = c.requires.equation
-
-pub closed_again-requires-clause-apart : goal.closed_again-requires-clause-apart
-closed_again-requires-clause-apart t c = rw (c.concl.ensures.value, c.hyps.ensures.value) at c.in_ok-opening-in-Abs.ensures.apart
-
-pub closed_again-requires-clause-opened : goal.closed_again-requires-clause-opened
-closed_again-requires-clause-opened t c = c.in_ok-opening-in-Abs.ensures.opened
-
-pub closed_again-requires-clause-inner : goal.closed_again-requires-clause-inner
-closed_again-requires-clause-inner t c = c.in_ok-inner-in-Abs.ensures
-
-pub returns-in_ok-inner-in-Abs : goal.returns-in_ok-inner-in-Abs
-returns-in_ok-inner-in-Abs t c =
-    rewritten_in_body c.args.defs.now c.args.eq.now.promises c.args.eq.now.hyps c.closed_again.result c.args.steps.now c.in-Some.rest.now c.in-Some.step.now c.args.term.now c.args.sides.now.left.now c.args.sides.now.right.now
-    c.in-Abs.ty c.in-Abs.body c.in-Some.ensures.cases.0 (sym c.node.ensures ∙ ap seen c.in-Abs.is) c.requires.there c.closed_again.ensures
-
-pub returns-in_ok-inner-in-App : goal.returns-in_ok-inner-in-App
-returns-in_ok-inner-in-App t c =
-    rewritten_in_function c.with_argument.result c.args.steps.now c.in-Some.rest.now c.in-Some.step.now c.args.term.now c.args.sides.now.right.now c.in-App.fun c.in-App.arg
-    c.in-Some.ensures.cases.0 c.if-step-eq0.true (sym c.node.ensures ∙ ap seen c.in-App.is) c.in_ok-inner-in-App.ensures c.with_argument.ensures
-
-pub returns-in_ok-inner-in-App-2 : goal.returns-in_ok-inner-in-App-2
-returns-in_ok-inner-in-App-2 t c =
-    rewritten_in_argument c.with_function.result c.args.steps.now c.in-Some.rest.now c.in-Some.step.now c.args.term.now c.args.sides.now.right.now c.in-App.fun c.in-App.arg
-    c.in-Some.ensures.cases.0 c.if-step-eq0.false (sym c.node.ensures ∙ ap seen c.in-App.is) c.in_ok-inner-in-App-2.ensures c.with_function.ensures
+pub rewritten-returns-in-Abs : goal.rewritten-returns-in-Abs
+rewritten-returns-in-Abs t c =
+    rewritten_in_body c.args.defs.now c.args.eq.now.promises c.args.eq.now.hyps c.in_abstraction.result c.args.steps.now c.in-Some.rest.now c.in-Some.step.now c.args.term.now c.args.sides.now.left.now c.args.sides.now.right.now
+    c.in-Abs.ty c.in-Abs.body c.in-Some.ensures.cases.0 (sym c.node.ensures ∙ ap seen c.in-Abs.is) c.requires.there c.in_abstraction.ensures
