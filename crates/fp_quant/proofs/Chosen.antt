@@ -14,7 +14,7 @@ use Rattle.fp_kernel.specs.Start.{signature_of}
 use Rattle.fp_kernel.specs.Theorems.{Theorem, IsTheorem, from_one}
 use Rattle.fp_forms.specs.Shapes.{argument_in, body_in, IsAbstraction}
 use Rattle.fp_logic.specs.Steps.{by_one}
-use Rattle.fp_quant.specs.Existential.{existence_parts, witness_type, exists_of}
+use Rattle.fp_quant.specs.Existential.{existence_parts, witness_type, witnessed, exists_of}
 use Rattle.fp_quant.specs.Existence.{IsPredicate, IsExistence}
 use Rattle.fp_quant.proofs.Existing.{some_predicate}
 use Rattle.fp_quant.proofs.Parted.{existence_shape, existence_at, abstraction_at, body_at, concl_apart, rest_apart, predicate_apart, witness_typed}
@@ -46,15 +46,19 @@ module _ (g : Signature) (t u : Tm) (s ty : Typ) (body : Tm) (checked : witness_
   pub exists_typed : IsWellTyped g u ty
   exists_typed = subst (IsWellTyped g u) ((type_eq-decides s ty).0 same) (witness_typed g t u s checked).1
 
-  pub exists_gives : (p : Tm) → term_eq (opened 0 u body) p ≡ true → exists_of g t u p ≡ gives (for_some ty body)
-  exists_gives p e = rw (checked, is, e, same) (ap gives (existence_shape t (ty, body) is))
-
 pub exists_predicate : (defs : List Def) (t u : Tm) (s ty : Typ) (body : Tm) → witness_type (signature_of defs) t u ≡ gives s → existence_parts t ≡ Some (ty, body) → IsPredicate defs ty (abs ty body)
 exists_predicate defs t u s ty body checked is =
     let h = (witness_typed (signature_of defs) t u s checked).0 in
     some_predicate defs ty body h.0 (subst (λ (x : Tm). IsWellTyped (signature_of defs) x h.0) (existence_shape t (ty, body) is) h.1)
 
-pub exists_is : (defs : List Def) (a th : Theorem) (t u : Tm) (s ty : Typ) (body : Tm) → witness_type (signature_of defs) t u ≡ gives s → existence_parts t ≡ Some (ty, body) → type_eq s ty ≡ true →
-    term_eq (opened 0 u body) a.concl ≡ true → th ≡ by_one defs a (for_some ty body) → from_one defs a a.hyps (exists_of (signature_of defs) t u a.concl) ≡ gives th
-exists_is defs a th t u s ty body checked is same e f =
-    ap (λ o. from_one defs a a.hyps o) (exists_gives (signature_of defs) t u s ty body checked is same a.concl e) ∙ ap gives (sym f)
+pub witnessed_gives : (t u : Tm) (s ty : Typ) (body p : Tm) → existence_parts t ≡ Some (ty, body) → type_eq s ty ≡ true → term_eq (opened 0 u body) p ≡ true → witnessed t u s p (ty, body) ≡ gives (for_some ty body)
+witnessed_gives t u s ty body p is same e = rw (e, same) (ap gives (existence_shape t (ty, body) is))
+
+pub witnessed_is : (defs : List Def) (a th : Theorem) (t u : Tm) (s ty : Typ) (body : Tm) → existence_parts t ≡ Some (ty, body) → type_eq s ty ≡ true →
+    term_eq (opened 0 u body) a.concl ≡ true → th ≡ by_one defs a (for_some ty body) → from_one defs a a.hyps (witnessed t u s a.concl (ty, body)) ≡ gives th
+witnessed_is defs a th t u s ty body is same e f =
+    ap (λ o. from_one defs a a.hyps o) (witnessed_gives t u s ty body a.concl is same e) ∙ ap gives (sym f)
+
+-- the whole is that, where nothing is refused before
+pub witnessed_is_exists : (g : Signature) (t u a : Tm) (s : Typ) (p : Typ × Tm) → witness_type g t u ≡ gives s → existence_parts t ≡ Some p → witnessed t u s a p ≡ exists_of g t u a
+witnessed_is_exists g t u a s p e f = rw (e, f) refl

@@ -1,15 +1,15 @@
 -- What has the parts of `?v. p` is that, and what was checked is well typed.
-use Rattle.std.proofs.Common.{◌≡◌, ◌∙◌, ℕ, true, false, List, [], ◌∷◌, refl, sym, ap, subst}
+use Rattle.std.proofs.Common.{◌≡◌, ◌∙◌, ℕ, false, List, [], ◌∷◌, refl, sym, ap, subst}
 use Rattle.std.specs.Prelude.{Option, Some, None, codes}
 use Rattle.std.proofs.lemmas.Option.{none-some, same_Some}
 use Rattle.fp_term.specs.declared.signature.Signature.{Signature}
-use Rattle.fp_term.specs.Types.{Typ, type_eq}
-use Rattle.fp_term.specs.Terms.{Tm, free, app, abs, term_eq, opened}
+use Rattle.fp_term.specs.Types.{Typ}
+use Rattle.fp_term.specs.Terms.{Tm, free, app, abs, term_eq}
 use Rattle.fp_term.specs.Signatures.{IsWellTyped, first_of, unknown_in}
 use Rattle.fp_term.proofs.Choices.{chosen}
-use Rattle.fp_term.proofs.Equal.{type_eq-decides, term_eq-decides}
+use Rattle.fp_term.proofs.Equal.{term_eq-decides}
 use Rattle.fp_conclude.specs.Logic.{quantifier}
-use Rattle.fp_conclude.specs.Hypotheses.{without, occurs, occurs_in_any}
+use Rattle.fp_conclude.specs.Hypotheses.{occurs, occurs_in_any}
 use Rattle.fp_conclude.specs.Checks.{typed, typed_over}
 use Rattle.fp_conclude.specs.Outcomes.{gives, unknown_name, followed_by}
 use Rattle.fp_conclude.proofs.Checked.{well_typed}

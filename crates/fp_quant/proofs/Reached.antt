@@ -1,6 +1,6 @@
 -- The steps to and from what is said of some value.
 use Rattle.std.proofs.Common.{◌≡◌, ◌∙◌, ℕ, ◌+◌, Bool, true, false, ◌&&◌, ◌||◌, List, [], ◌∷◌, refl, sym, ap, subst}
-use Rattle.std.specs.Prelude.{Some, codes}
+use Rattle.std.specs.Prelude.{codes}
 use Rattle.std.specs.Str.{bytes_eq}
 use Rattle.std.proofs.lemmas.Bool.Decides.{Decides-and}
 use Rattle.std.proofs.lemmas.Slice.Eq.{bytes_eq-Decides}
@@ -13,7 +13,7 @@ use Rattle.fp_conclude.specs.Hypotheses.{occurs}
 use Rattle.fp_kernel.specs.Definitions.{Def, Within, whole}
 use Rattle.fp_kernel.specs.Start.{signature_of}
 use Rattle.fp_kernel.specs.Theorems.{Theorem}
-use Rattle.fp_forms.specs.Shapes.{left, right, binder_in, body_in, IsAbstraction}
+use Rattle.fp_forms.specs.Shapes.{left, right, IsAbstraction}
 use Rattle.fp_logic.specs.Steps.{plain, by_both, CanCombine, combined}
 use Rattle.fp_quant.specs.Existence.{IsPredicate}
 

@@ -5,11 +5,11 @@ ghost use Rattle.fp_term.specs.Terms.{free, opened};
 ghost use Rattle.fp_term.specs.Signatures.{first_of, unknown_in};
 ghost use Rattle.fp_conclude.specs.Checks.{typed};
 ghost use Rattle.fp_conclude.specs.Hypotheses.{without, occurs_in_any};
-ghost use Rattle.fp_conclude.specs.Outcomes.{Answers};
+ghost use Rattle.fp_conclude.specs.Outcomes.{Answers, gives};
 ghost use Rattle.fp_kernel.specs.Definitions.{Within};
 ghost use Rattle.fp_kernel.specs.Start.{signature_of};
 ghost use Rattle.fp_kernel.specs.Theorems.{from_one};
-ghost use Rattle.fp_quant.specs.Existential.{existence_parts, witness_type, exists_of, choose_from, select_of};
+ghost use Rattle.fp_quant.specs.Existential.{existence_parts, witness_type, witnessed, exists_of, chosen_by, choose_from, select_of};
 
 use crate::fault::{free_in_hyps, unknown_name};
 use crate::witness::{chosen, eliminated, witnessed};
@@ -76,6 +76,32 @@ fn witness_type(
     typed(alloc, witness)
 }
 
+// `t`, which is `?v. p`, from `p` with the witness for `v`, by the parts of `t` and the type of the witness.
+fn witnessed_by(
+    alloc: Global,
+    defs: &Defs,
+    term: &Term,
+    witness: &Term,
+    of_witness: &Ty,
+    a: &Thm,
+    ty: &Ty,
+    body: &Term,
+) -> Result<Thm, RuleFault>
+    requires within { Within a.now.defs defs.now }
+    requires typed { witness_type (signature_of defs.now) term.now witness.now ≡ gives of_witness.now }
+    requires parts { existence_parts term.now ≡ Some (ty.now, body.now) }
+    ensures { Answers result (from_one defs.now a.now a.now.hyps (witnessed term.now witness.now of_witness.now a.now.concl (ty.now, body.now))) }
+{
+    let held = open_with(alloc, body, witness)?;
+    if !same(&held, a.concl()) {
+        return Err(differ(&held, a.concl()));
+    }
+    if !of_witness.equals(ty) {
+        return Err(RuleFault::IllTyped(Place::here(alloc)));
+    }
+    Ok(witnessed(alloc, defs, a, ty, body, witness)?)
+}
+
 /// `t`, which is `?v. p`, from `p` with the witness for `v`.
 #[tactic(auto, using(fp_conclude::proofs::Outcomes::faults_then))]
 pub fn exists(
@@ -93,14 +119,7 @@ pub fn exists(
     let Some((ty, body)) = parts else {
         return Err(RuleFault::Shape);
     };
-    let held = open_with(alloc, body, witness)?;
-    if !same(&held, a.concl()) {
-        return Err(differ(&held, a.concl()));
-    }
-    if !of_witness.equals(ty) {
-        return Err(RuleFault::IllTyped(Place::here(alloc)));
-    }
-    Ok(witnessed(alloc, defs, a, ty, body, witness)?)
+    witnessed_by(alloc, defs, term, witness, &of_witness, a, ty, body)
 }
 
 // `p` with `x` for `v`.
@@ -127,6 +146,32 @@ fn is_free(
     Ok(occurs(name, ty, b.concl()) || (occurs(name, ty, a.concl()) || in_rest))
 }
 
+// `q` from `?v. p` and from `q`, where the variable can stand for `v`.
+fn chosen_by(
+    alloc: Global,
+    defs: &Defs,
+    name: &Name,
+    ty: &Ty,
+    a: &Thm,
+    b: &Thm,
+    bound: &Ty,
+    body: &Term,
+) -> Result<Thm, RuleFault>
+    requires first_within { Within a.now.defs defs.now }
+    requires second_within { Within b.now.defs defs.now }
+    requires parts { existence_parts a.now.concl ≡ Some (bound.now, body.now) }
+    ensures { Answers result (chosen_by defs.now name.now ty.now a.now b.now (bound.now, body.now)) }
+{
+    let held = held_by(alloc, name, ty, body)?;
+    if is_free(alloc, name, ty, a, b, &held)? {
+        return Err(free_in_hyps(name));
+    }
+    if !ty.equals(bound) {
+        return Err(RuleFault::IllTyped(Place::here(alloc)));
+    }
+    Ok(eliminated(alloc, defs, name, ty, argument_in(a.concl()), a, b)?)
+}
+
 /// `q` from `?v. p` and from `q`, without `p` with the variable for `v` among the hypotheses of the second theorem. The
 /// variable is free neither in `q` nor in `?v. p` nor in another hypothesis of the second theorem.
 pub fn choose(
@@ -148,14 +193,7 @@ pub fn choose(
     let Some((bound, body)) = parts else {
         return Err(RuleFault::Shape);
     };
-    let held = held_by(alloc, name, ty, body)?;
-    if is_free(alloc, name, ty, a, b, &held)? {
-        return Err(free_in_hyps(name));
-    }
-    if !ty.equals(bound) {
-        return Err(RuleFault::IllTyped(Place::here(alloc)));
-    }
-    Ok(eliminated(alloc, defs, name, ty, argument_in(a.concl()), a, b)?)
+    chosen_by(alloc, defs, name, ty, a, b, bound, body)
 }
 
 /// `p` with `@v. p` for `v`, from `?v. p`.

@@ -12,7 +12,7 @@ ghost use Rattle.fp_kernel.specs.Theorems.{from_one};
 ghost use Rattle.fp_logic.specs.Steps.{plain, by_one};
 ghost use Rattle.fp_quant.specs.Extensional.{type_of, alike_at, left_expanded, both_expanded, right_expanded, alike, is_free};
 ghost use Rattle.fp_quant.specs.Meanings.{eta_at};
-ghost use Rattle.fp_quant.specs.Universal.{applied_to_variable, ext_of};
+ghost use Rattle.fp_quant.specs.Universal.{applied_to_variable, same_functions, ext_of};
 
 use crate::fault::{free_in_hyps, unknown_name};
 use crate::steps::{abstracted, extension, for_alpha, for_beta};
@@ -166,6 +166,25 @@ fn is_free(name: &Name, functions: &Functions<'_>, hyps: &[Term]) -> bool
         || occurs_in_any(name, functions.from, hyps)
 }
 
+// `f = g` from `f x = g x`, where `x` is free in neither and in no hypothesis.
+fn same_functions(
+    alloc: Global,
+    defs: &Defs,
+    name: &Name,
+    functions: &Functions<'_>,
+    a: &Thm,
+) -> Result<Thm, RuleFault>
+    requires within { Within a.now.defs defs.now }
+    requires known { IsType (signature_of defs.now) functions.now.from.now }
+    requires shape { a.now.concl ≡ alike_at name.now functions.now }
+    ensures { Answers result (from_one defs.now a.now a.now.hyps (same_functions name.now functions.now.from.now a.now.hyps functions.now.to.now functions.now.left.now functions.now.right.now)) }
+{
+    if is_free(name, functions, a.hyps()) {
+        return Err(free_in_hyps(name));
+    }
+    Ok(extended(alloc, defs, name, functions, a)?)
+}
+
 /// `f = g` from `f x = g x`.
 pub fn ext(alloc: Global, defs: &Defs, name: &Name, ty: &Ty, a: &Thm) -> Result<Thm, RuleFault>
     requires { Within a.now.defs defs.now }
@@ -189,8 +208,5 @@ pub fn ext(alloc: Global, defs: &Defs, name: &Name, ty: &Ty, a: &Thm) -> Result<
         left,
         right,
     };
-    if is_free(name, &functions, a.hyps()) {
-        return Err(free_in_hyps(name));
-    }
-    Ok(extended(alloc, defs, name, &functions, a)?)
+    same_functions(alloc, defs, name, &functions, a)
 }

@@ -3,7 +3,7 @@ ghost use Rattle.std.specs.Prelude.{◌≡◌, [], IfOk};
 ghost use Rattle.fp_term.specs.Terms.{bound, app};
 ghost use Rattle.fp_conclude.specs.Logic.{alpha, implication};
 ghost use Rattle.fp_logic.specs.Steps.{plain};
-ghost use Rattle.fp_quant.specs.Existence.{predicate_variable, at_choice, each_chosen};
+ghost use Rattle.fp_quant.specs.Existence.{predicate_variable, at_choice};
 ghost use Rattle.fp_quant.specs.Kept.{statement_of};
 ghost use Rattle.fp_quant.specs.declared.kept.Schema.TheVariants.{Introduction, Elimination, Choice};
 

@@ -1,5 +1,5 @@
 use Rattle.std.proofs.Common.{refl}
-use Rattle.fp_conclude.specs.Logic.{alpha, predicate_type, equal}
+use Rattle.fp_conclude.specs.Logic.{alpha, predicate_type}
 use Rattle.fp_kernel.specs.Definitions.{whole}
 use Rattle.fp_logic.proofs.Concrete.{at_start}
 use Rattle.fp_quant.specs.Existence.{predicate_variable}

@@ -1,19 +1,19 @@
-use Rattle.std.proofs.Common.{◌∙◌, sym}
+use Rattle.std.proofs.Common.{subst}
+use Rattle.fp_conclude.specs.Outcomes.{Answers}
 use Rattle.fp_kernel.specs.Start.{signature_of}
-use Rattle.fp_quant.proofs.Chosen.{exists_predicate, exists_typed, exists_is}
+use Rattle.fp_kernel.specs.Theorems.{from_one}
+use Rattle.fp_quant.proofs.Chosen.{witnessed_is_exists}
 use Rattle.fp_quant.proofs.existential.exists.Goals as goal
 
-pub witnessed-requires-clause-predicate : goal.witnessed-requires-clause-predicate
-witnessed-requires-clause-predicate c =
-    exists_predicate c.args.defs.now c.args.term.now c.args.witness.now c.in_ok-of_witness.of_witness c.in-Some.ty.now c.in-Some.body.now (rw c.signature.ensures at c.in_ok-of_witness.ensures) (rw c.in-Some.is at c.in_ok-parts.ensures)
+pub witnessed_by-requires-clause-typed : goal.witnessed_by-requires-clause-typed
+witnessed_by-requires-clause-typed c = rw c.signature.ensures at c.in_ok-of_witness.ensures
 
-pub witnessed-requires-clause-typed : goal.witnessed-requires-clause-typed
-witnessed-requires-clause-typed c =
-    exists_typed (signature_of c.args.defs.now) c.args.term.now c.args.witness.now c.in_ok-of_witness.of_witness c.in-Some.ty.now c.in-Some.body.now
-    (rw c.signature.ensures at c.in_ok-of_witness.ensures) (rw c.in-Some.is at c.in_ok-parts.ensures) (sym c.equals.ensures ∙ c.if-not-equals.false)
+pub witnessed_by-requires-clause-parts : goal.witnessed_by-requires-clause-parts
+witnessed_by-requires-clause-parts c = rw c.in-Some.is at c.in_ok-parts.ensures
 
 pub returns : goal.returns
 returns c =
-    exists_is c.args.defs.now c.args.a.now c.in_ok-witnessed.field-0 c.args.term.now c.args.witness.now c.in_ok-of_witness.of_witness c.in-Some.ty.now c.in-Some.body.now
-    (rw c.signature.ensures at c.in_ok-of_witness.ensures) (rw c.in-Some.is at c.in_ok-parts.ensures) (sym c.equals.ensures ∙ c.if-not-equals.false)
-    (rw (c.in_ok-held.ensures, c.concl.ensures.value) at (sym c.same.ensures.value ∙ c.if-not-same.false)) c.in_ok-witnessed.ensures
+    subst (λ o. Answers c.witnessed_by.result (from_one c.args.defs.now c.args.a.now c.args.a.now.hyps o))
+    (witnessed_is_exists (signature_of c.args.defs.now) c.args.term.now c.args.witness.now c.args.a.now.concl c.in_ok-of_witness.of_witness (c.in-Some.ty.now, c.in-Some.body.now)
+    (rw c.signature.ensures at c.in_ok-of_witness.ensures) (rw c.in-Some.is at c.in_ok-parts.ensures))
+    c.witnessed_by.ensures
