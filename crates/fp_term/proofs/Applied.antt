@@ -1,6 +1,6 @@
 -- What is answered for an application, from the types of its parts.
-use Rattle.std.proofs.Common.{◌≡◌, List, refl, ap}
-use Rattle.std.specs.Prelude.{Some, None, Result, Ok, Err}
+use Rattle.std.proofs.Common.{List, ap}
+use Rattle.std.specs.Prelude.{Result, Ok, Err}
 use Rattle.fp_term.specs.Types.{Typ}
 use Rattle.fp_term.specs.Terms.{Tm, app}
 use Rattle.fp_term.specs.Typing.{type_of_app, here_unless}
