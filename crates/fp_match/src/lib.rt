@@ -3,7 +3,7 @@
 
 ghost use Rattle.std.specs.Prelude.{◌≡◌, [], Some, None, IfOk, MatchOption, MatchBool};
 ghost use Rattle.std.specs.Option.{option_copied};
-ghost use Rattle.fp_term.specs.Terms.{constant, found};
+ghost use Rattle.fp_term.specs.Terms.{constant, app, abs, found};
 ghost use Rattle.fp_term.specs.Typing.{type_under};
 ghost use Rattle.fp_match.specs.Instances.{IsInstanceBy, IsTermInstance, AreOwn, AreFirst};
 ghost use Rattle.fp_match.specs.Walk.{is_number, matched_term, put_term, put_variable};
@@ -89,7 +89,44 @@ fn match_constant(
     }
 }
 
+#[cycle(match_onto)]
+fn match_application(
+    alloc: Global,
+    inst: &mut Inst,
+    fun: &Term,
+    arg: &Term,
+    term: &Term,
+) -> Result<bool, AllocError>
+    ensures { IfOk result (λ yes. MatchBool yes (matched_term inst.old (app fun.now arg.now) term.now ≡ Some inst.new) (matched_term inst.old (app fun.now arg.now) term.now ≡ None)) }
+{
+    match term.node() {
+        Node::App { fun: g, arg: y } => {
+            Ok(match_onto(alloc, inst, fun, g)? && match_onto(alloc, inst, arg, y)?)
+        }
+        _ => Ok(false),
+    }
+}
+
+#[cycle(match_onto)]
+fn match_abstraction(
+    alloc: Global,
+    inst: &mut Inst,
+    ty: &Ty,
+    body: &Term,
+    term: &Term,
+) -> Result<bool, AllocError>
+    ensures { IfOk result (λ yes. MatchBool yes (matched_term inst.old (abs ty.now body.now) term.now ≡ Some inst.new) (matched_term inst.old (abs ty.now body.now) term.now ≡ None)) }
+{
+    match term.node() {
+        Node::Abs { ty: u, body: y } => {
+            Ok(match_type(alloc, &mut inst.types, ty, u)? && match_onto(alloc, inst, body, y)?)
+        }
+        _ => Ok(false),
+    }
+}
+
 // Adds what makes the pattern equal to the term, and says whether there is anything that agrees with what is there.
+#[cycle(match_onto)]
 fn match_onto(
     alloc: Global,
     inst: &mut Inst,
@@ -102,18 +139,8 @@ fn match_onto(
         Node::Bound(number) => Ok(is_number(*number, term)),
         Node::Free { name, ty } => match_variable(alloc, inst, name, ty, term),
         Node::Const { name, ty } => match_constant(alloc, inst, name, ty, term),
-        Node::App { fun, arg } => match term.node() {
-            Node::App { fun: g, arg: y } => {
-                Ok(match_onto(alloc, inst, fun, g)? && match_onto(alloc, inst, arg, y)?)
-            }
-            _ => Ok(false),
-        },
-        Node::Abs { ty, body } => match term.node() {
-            Node::Abs { ty: u, body: y } => {
-                Ok(match_type(alloc, &mut inst.types, ty, u)? && match_onto(alloc, inst, body, y)?)
-            }
-            _ => Ok(false),
-        },
+        Node::App { fun, arg } => match_application(alloc, inst, fun, arg, term),
+        Node::Abs { ty, body } => match_abstraction(alloc, inst, ty, body, term),
     }
 }
 
