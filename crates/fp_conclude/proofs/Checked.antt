@@ -9,7 +9,7 @@ use Rattle.fp_term.specs.Typing.{type_under, ill_typed}
 use Rattle.fp_term.specs.Signatures.{IsWellTyped, first_of, unknown_in_type, unknown_in}
 use Rattle.fp_term.proofs.Equal.{type_eq-decides}
 use Rattle.fp_term.proofs.Known.{known, type_known}
-use Rattle.fp_conclude.specs.Outcomes.{Outcome, gives, unknown_name, ill_typed_at, unless}
+use Rattle.fp_conclude.specs.Outcomes.{gives, unknown_name, ill_typed_at}
 use Rattle.fp_conclude.specs.Checks.{type_given, typed, typed_over, unknown_in_pairs, fits, fitting, unknown_in_type_pairs, AreTerms, AreTypesOf}
 use Rattle.fp_conclude.proofs.Outcomes.{unless_gives, followed_gives, same_given}
 

@@ -1,11 +1,11 @@
 -- A term has the parts of an equation exactly where it is one.
-use Rattle.std.proofs.Common.{◌≡◌, ◌∙◌, Bool, true, false, cond, ◌&&◌, refl, sym, ap}
+use Rattle.std.proofs.Common.{◌≡◌, ◌∙◌, Bool, true, false, ◌&&◌, refl, sym, ap}
 use Rattle.std.specs.Prelude.{Option, Some, None, MatchOption}
 use Rattle.std.specs.Str.{bytes_eq}
 use Rattle.std.proofs.lemmas.Option.{none-some, same_Some}
 use Rattle.std.proofs.lemmas.Slice.Eq.{bytes_eq-Decides}
 use Rattle.fp_term.specs.Names.{function, equality}
-use Rattle.fp_term.specs.Types.{Typ, variable, applied, none, more, type_eq}
+use Rattle.fp_term.specs.Types.{Typ, applied, none, more, type_eq}
 use Rattle.fp_term.specs.Terms.{Tm, bound, free, constant, app, abs}
 use Rattle.fp_term.specs.Typing.{function_type}
 use Rattle.fp_term.proofs.Choices.{chosen, followed}

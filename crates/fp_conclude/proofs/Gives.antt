@@ -1,19 +1,19 @@
 -- What the rules give on premises of their shape.
-use Rattle.std.proofs.Common.{◌≡◌, ℕ, Bool, true, false, List, [], ◌∷◌, refl, sym, ap}
+use Rattle.std.proofs.Common.{◌≡◌, ℕ, true, false, List, [], ◌∷◌, refl, ap}
 use Rattle.std.specs.Prelude.{Some, None}
 use Rattle.fp_term.specs.declared.signature.Signature.{Signature}
 use Rattle.fp_term.specs.Types.{Typ, type_eq}
 use Rattle.fp_term.specs.Terms.{Tm, app, abs, term_eq, opened, closed, replaced, retyped_term}
 use Rattle.fp_term.specs.Typing.{type_under, function_type, here_unless, ill_typed}
 use Rattle.fp_term.specs.Terms.{bound, free, constant}
-use Rattle.fp_term.specs.Signatures.{IsType, IsWellTyped, first_of, unknown_in_type, unknown_in}
+use Rattle.fp_term.specs.Signatures.{IsType, IsWellTyped, unknown_in_type}
 use Rattle.fp_term.proofs.Equal.{type_eq-decides, term_eq-decides}
 use Rattle.fp_term.proofs.Known.{over_known, known_type}
 use Rattle.fp_term.proofs.Typed.{app_parts, abs_parts}
 use Rattle.fp_conclude.specs.Logic.{truth_type, equal}
 use Rattle.fp_conclude.specs.Hypotheses.{occurs_in_any}
 use Rattle.fp_conclude.specs.Outcomes.{gives}
-use Rattle.fp_conclude.specs.Checks.{typed, typed_over, unknown_in_pairs, fits, fitting, unknown_in_type_pairs, AreTerms, AreTypesOf}
+use Rattle.fp_conclude.specs.Checks.{typed, typed_over, unknown_in_pairs, fitting, unknown_in_type_pairs, AreTerms, AreTypesOf}
 use Rattle.fp_conclude.proofs.Equations.{equal_parts}
 use Rattle.fp_conclude.specs.Rules.{refl_of, trans_of, mk_comb_of, lam_of, beta_of, assume_of, eq_mp_of, inst_of, inst_ty_of}
 

@@ -4,3 +4,4 @@ pub mod Outcomes
 pub mod Parts
 pub mod Checks
 pub mod Rules
+pub mod Axioms

@@ -1,5 +1,5 @@
 -- What a rule gives, or why it gives nothing.
-use Rattle.std.specs.Prelude.{◌≡◌, ℕ, List, [], Option, Some, None, Result, Ok, Err}
+use Rattle.std.specs.Prelude.{◌≡◌, ℕ, List, Option, Some, None, Result, Ok, Err}
 use Rattle.fp_term.specs.Terms.{Tm}
 use Rattle.fp_term.specs.declared.typing.TypeOfFault.{TypeOfFault}
 use Rattle.fp_term.specs.declared.typing.TypeOfFault.TheVariants as typing

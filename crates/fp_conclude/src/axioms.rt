@@ -3,12 +3,13 @@ ghost use Rattle.fp_term.specs.Names.{is_name};
 ghost use Rattle.fp_term.specs.Terms.{bound, free, app, abs};
 ghost use Rattle.fp_term.specs.Typing.{function_type};
 ghost use Rattle.fp_conclude.specs.Logic.{alpha, beta, individuals, predicate_type, equal, conjunction, implication, negation, for_all, for_some, select};
-ghost use Rattle.fp_kernel.specs.Start.{eta, selection, infinity, axiom_numbered};
+ghost use Rattle.fp_conclude.specs.Axioms.{eta, selection, infinity, axiom_numbered};
 
-use fp_conclude::{
-    abstraction, alpha, apply, beta_variable, conjunction, equation, for_all, for_some,
-    implication, individuals, negation, predicate_over, select,
+use crate::formula::{
+    abstraction, alpha, beta_variable, conjunction, for_all, for_some, implication, individuals,
+    negation, select,
 };
+use crate::logic::{apply, equation, predicate_over};
 use fp_term::{Name, Term, Ty, function_of};
 use std::alloc::{AllocError, Global};
 
@@ -109,12 +110,20 @@ fn injective(alloc: Global) -> Result<Term, AllocError>
     for_all(alloc, &ty, &inner)
 }
 
+// `y = f x`, where the numbers 2, 1 and 0 stand for `f`, `y` and `x`
+fn met(alloc: Global, ty: &Ty) -> Result<Term, AllocError>
+    ensures { IfOk result (λ t. t ≡ equal ty.now (bound 1) (app (bound 2) (bound 0))) }
+{
+    let value = value(alloc, 2, 0)?;
+    equation(alloc, ty, &Term::bound(alloc, 1)?, &value)
+}
+
 // `~ (!y. ?x. y = f x)`, where the number 2 in the innermost place stands for `f`
 fn not_onto(alloc: Global) -> Result<Term, AllocError>
     ensures { IfOk result (λ t. t ≡ negation (for_all individuals (for_some individuals (equal individuals (bound 1) (app (bound 2) (bound 0)))))) }
 {
     let ty = individuals(alloc)?;
-    let met = equation(alloc, &ty, &Term::bound(alloc, 1)?, &value(alloc, 2, 0)?)?;
+    let met = met(alloc, &ty)?;
     let some = for_some(alloc, &ty, &met)?;
     negation(alloc, &for_all(alloc, &ty, &some)?)
 }

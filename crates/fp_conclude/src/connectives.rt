@@ -2,13 +2,13 @@ ghost use Rattle.std.specs.Prelude.{◌≡◌, codes, IfOk, IsTrue};
 ghost use Rattle.fp_term.specs.Names.{is_name};
 ghost use Rattle.fp_term.specs.Terms.{bound, app, abs};
 ghost use Rattle.fp_conclude.specs.Logic.{alpha, truth_type, predicate_type, binary_type, quantifier_type, equal, conjunction, implication, negation_constant, quantifier, true_constant, false_constant, connective, for_all};
-ghost use Rattle.fp_kernel.specs.Start.{true_is, and_is, imp_is, all_is, ex_is, or_is, false_is, not_is, connective_numbered};
+ghost use Rattle.fp_conclude.specs.Axioms.{true_is, and_is, imp_is, all_is, ex_is, or_is, false_is, not_is, connective_numbered};
 
-use fp_conclude::{
-    abstraction, alpha, apply, apply_both, binary_truth, conjunction, connective, equation,
-    false_constant, for_all, implication, negation_constant, predicate_over, quantifier,
-    quantifier_type, true_constant, truth_type,
+use crate::formula::{
+    abstraction, alpha, binary_truth, conjunction, connective, false_constant, for_all,
+    implication, negation_constant, quantifier, quantifier_type, true_constant,
 };
+use crate::logic::{apply, apply_both, equation, predicate_over, truth_type};
 use fp_term::Term;
 use std::alloc::{AllocError, Global};
 

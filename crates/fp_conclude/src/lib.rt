@@ -1,8 +1,10 @@
 //! Formulas of the logic, and what its rules conclude from the conclusions of their premises.
 #![tactic(auto)]
 
+mod axioms;
 mod checks;
 mod conclude;
+mod connectives;
 mod fault;
 mod formula;
 mod hypotheses;
@@ -10,8 +12,10 @@ mod logic;
 mod parts;
 mod substitution;
 
+pub use axioms::axiom;
 pub use checks::typed_over;
 pub use conclude::{assume, beta, eq_mp, lam, mk_comb, refl, trans};
+pub use connectives::connective_definition;
 pub use fault::{RuleFault, differ};
 pub use formula::{
     abstraction, alpha, beta_variable, binary_truth, conjunction, connective, false_constant,

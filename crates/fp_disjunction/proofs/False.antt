@@ -12,7 +12,8 @@ use Rattle.fp_conclude.specs.Outcomes.{gives}
 use Rattle.fp_conclude.specs.Rules.{inst_ty_of}
 use Rattle.fp_conclude.proofs.Gives.{inst_ty_gives}
 use Rattle.fp_kernel.specs.Definitions.{Def, whole}
-use Rattle.fp_kernel.specs.Start.{signature_of, connective_numbered}
+use Rattle.fp_kernel.specs.Start.{signature_of}
+use Rattle.fp_conclude.specs.Axioms.{connective_numbered}
 use Rattle.fp_kernel.specs.Derivability.{IsFormula}
 use Rattle.fp_kernel.specs.Theorems.{Theorem, stands, from_one}
 use Rattle.fp_kernel.proofs.Growing.{from_start}

@@ -18,7 +18,8 @@ use Rattle.fp_term.proofs.Typed.{app_parts, abs_parts, same_function, app_typed,
 use Rattle.fp_term.proofs.Retyped.{retyped_typed, retyped_over}
 use Rattle.fp_kernel.specs.Definitions.{Def}
 use Rattle.fp_conclude.specs.Logic.{truth_type, alpha, predicate_type, equality_type, equal}
-use Rattle.fp_kernel.specs.Start.{signature_of, eta, selection, infinity, axioms, true_is, and_is, imp_is, all_is, ex_is, or_is, false_is, not_is, connectives}
+use Rattle.fp_kernel.specs.Start.{signature_of}
+use Rattle.fp_conclude.specs.Axioms.{eta, selection, infinity, axioms, true_is, and_is, imp_is, all_is, ex_is, or_is, false_is, not_is, connectives}
 use Rattle.fp_kernel.specs.Derivability.{IsIn, first, later}
 use Rattle.fp_conclude.specs.Checks.{AreTerms, AreTypesOf}
 use Rattle.fp_kernel.specs.Derivability.{IsFormula, AreFormulas}

@@ -7,7 +7,8 @@ use Rattle.fp_conclude.specs.Hypotheses.{union, without, all_replaced, all_retyp
 use Rattle.fp_conclude.specs.Outcomes.{gives}
 use Rattle.fp_conclude.specs.Rules.{trans_of, mk_comb_of, lam_of, eq_mp_of, inst_of, inst_ty_of}
 use Rattle.fp_kernel.specs.Definitions.{Def, Within}
-use Rattle.fp_kernel.specs.Start.{signature_of, axioms, axiom_numbered, connectives, connective_numbered}
+use Rattle.fp_kernel.specs.Start.{signature_of}
+use Rattle.fp_conclude.specs.Axioms.{axioms, axiom_numbered, connectives, connective_numbered}
 use Rattle.fp_kernel.specs.Derivability.{IsIn, first, later}
 use Rattle.fp_kernel.specs.Derivability.{Derives, antisym, axiom_of, connective_of}
 use Rattle.fp_kernel.specs.Theorems.{Theorem, IsTheorem, promise_union}

@@ -9,7 +9,8 @@ use Rattle.fp_conclude.specs.Logic.{truth_type, equal}
 use Rattle.fp_conclude.specs.Hypotheses.{member, union, without, all_replaced, all_retyped_terms, occurs_in_any}
 use Rattle.fp_conclude.specs.Checks.{AreTerms, AreTypesOf}
 use Rattle.fp_kernel.specs.Definitions.{Def, new_constant, new_type}
-use Rattle.fp_kernel.specs.Start.{signature_of, axioms, connectives, abs_rep, rep_abs}
+use Rattle.fp_kernel.specs.Start.{signature_of, abs_rep, rep_abs}
+use Rattle.fp_conclude.specs.Axioms.{axioms, connectives}
 
 -- it is one of the list
 pub data IsIn {A : Type 0} : A → List A → Type 0 where

@@ -1,8 +1,6 @@
 //! Definitions and theorems of higher-order logic: whoever holds a theorem holds something derivable.
 #![tactic(auto)]
 
-mod axioms;
-mod connectives;
 mod definition;
 mod defs;
 mod fault;

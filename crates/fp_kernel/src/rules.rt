@@ -4,16 +4,17 @@ ghost use Rattle.fp_conclude.specs.Hypotheses.{IsSet, union, without, all_replac
 ghost use Rattle.fp_conclude.specs.Outcomes.{Answers, gives};
 ghost use Rattle.fp_conclude.specs.Rules.{refl_of, trans_of, mk_comb_of, lam_of, beta_of, assume_of, eq_mp_of, inst_of, inst_ty_of};
 ghost use Rattle.fp_kernel.specs.Definitions.{Within};
-ghost use Rattle.fp_kernel.specs.Start.{signature_of, axiom_numbered, connective_numbered};
+ghost use Rattle.fp_kernel.specs.Start.{signature_of};
+ghost use Rattle.fp_conclude.specs.Axioms.{axiom_numbered, connective_numbered};
 ghost use Rattle.fp_kernel.specs.Derivability.{Derives};
 ghost use Rattle.fp_kernel.specs.Theorems.{promise_union, stands, from_one, from_two, from_both};
 
 use crate::defs::Defs;
 use crate::promises::{copy_promises, promise_union};
 use crate::thm::Thm;
-use crate::{axioms, connectives};
 use fp_conclude::{
-    self, RuleFault, all_instances, all_retyped, equation, single, truth_type, union, without,
+    self, RuleFault, all_instances, all_retyped, connective_definition, equation, single,
+    truth_type, union, without,
 };
 use fp_term::{Items, Name, Term, Ty, copy_all};
 use std::alloc::{AllocError, Global};
@@ -216,17 +217,17 @@ impl Defs {
         requires last { number ≤ 3 }
         ensures { Answers result (stands self.now [] [] (gives (axiom_numbered number))) }
     {
-        let concl = axioms::axiom(alloc, number)?;
+        let concl = fp_conclude::axiom(alloc, number)?;
         Ok(self.plain(alloc, Items::new(alloc), concl)?)
     }
 
-    /// The definition of the connective of that number: `T`, `/\\`, `-->`, `!`, `?`, `\\/`, `F`, `~`.
+    /// The definition of the connective of that number: `T`, `/\`, `-->`, `!`, `?`, `\/`, `F`, `~`.
     pub fn connective(&self, alloc: Global, number: u32) -> Result<Thm, RuleFault>
         requires first { 1 ≤ number }
         requires last { number ≤ 8 }
         ensures { Answers result (stands self.now [] [] (gives (connective_numbered number))) }
     {
-        let concl = connectives::connective_definition(alloc, number)?;
+        let concl = connective_definition(alloc, number)?;
         Ok(self.plain(alloc, Items::new(alloc), concl)?)
     }
 }

@@ -1,14 +1,10 @@
 -- Each list of definitions grew from none.
 use Rattle.std.proofs.Common.{◌≡◌, List, [], ◌∷◌, sym, subst}
-use Rattle.fp_term.specs.Terms.{Tm, replaced}
-use Rattle.fp_conclude.specs.Hypotheses.{all_replaced}
-use Rattle.fp_conclude.specs.Outcomes.{gives}
-use Rattle.fp_conclude.specs.Rules.{inst_of}
+use Rattle.fp_term.specs.Terms.{Tm}
 use Rattle.fp_kernel.specs.Definitions.{Def, Within, whole, newer}
 use Rattle.fp_kernel.specs.Derivability.{IsFormula}
 use Rattle.fp_kernel.specs.Start.{signature_of}
-use Rattle.fp_kernel.specs.Theorems.{Theorem, from_one}
-use Rattle.fp_forms.specs.Schemas.{in_place}
+use Rattle.fp_kernel.specs.Theorems.{Theorem}
 use Rattle.fp_logic.specs.Steps.{plain}
 use Rattle.fp_logic.proofs.Given.{Instance, instance_of}
 

@@ -8,7 +8,8 @@ use Rattle.fp_conclude.specs.Logic.{truth_type, equality_type, equal, true_const
 use Rattle.fp_conclude.specs.Hypotheses.{IsSet}
 use Rattle.fp_conclude.proofs.Sets.{union_nothing}
 use Rattle.fp_kernel.specs.Definitions.{Def, Within, whole}
-use Rattle.fp_kernel.specs.Start.{signature_of, true_is}
+use Rattle.fp_kernel.specs.Start.{signature_of}
+use Rattle.fp_conclude.specs.Axioms.{true_is}
 use Rattle.fp_kernel.specs.Derivability.{IsFormula}
 use Rattle.fp_kernel.specs.Theorems.{Theorem, IsTheorem, ArePromises}
 use Rattle.fp_kernel.proofs.Formulas.{formula_of, Sides, sides}

@@ -1,6 +1,6 @@
 use Rattle.std.specs.Prelude.{[]}
 use Rattle.fp_conclude.specs.Outcomes.{gives}
-use Rattle.fp_kernel.specs.Start.{connective_numbered}
+use Rattle.fp_conclude.specs.Axioms.{connective_numbered}
 use Rattle.fp_texts.proofs.Listed.{answered}
 use Rattle.fp_texts.proofs.over.connective.Goals as goal
 
