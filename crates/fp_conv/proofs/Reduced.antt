@@ -1,5 +1,5 @@
 -- The equations that a beta-normal form is made of.
-use Rattle.std.proofs.Common.{◌≡◌, ◌∙◌, ◌<◌, ℕ, Bool, true, false, ◌||◌, List, [], refl, sym, ap, arith}
+use Rattle.std.proofs.Common.{◌≡◌, ◌∙◌, ◌<◌, ◌+◌, ℕ, Bool, true, false, ◌||◌, List, [], refl, sym, ap, arith}
 use Rattle.std.specs.Prelude.{Result, Ok, Err, IfOk}
 use Rattle.std.proofs.lemmas.Option.{same_Some}
 use Rattle.fp_term.specs.Types.{Typ}
@@ -35,11 +35,11 @@ function_typed g t f x is h =
     let k = rw is at h.well in
     record { type = _; well = record { typed = (app_parts [] f x h.type k.typed).1; over = k.over.0 } }
 
-pub function_smaller : (t f x : Tm) → t ≡ app f x → size_of f < size_of t
-function_smaller t f x is = rw is (omega arith)
+pub parts_smaller : (t f x : Tm) → t ≡ app f x → size_of f + size_of x < size_of t
+parts_smaller t f x is = rw is (omega arith)
 
-pub argument_smaller : (t f x : Tm) → t ≡ app f x → size_of x < size_of t
-argument_smaller t f x is = rw is (omega arith)
+pub inner_smaller : (t : Tm) (u : Typ) (x : Tm) → t ≡ abs u x → size_of x < size_of t
+inner_smaller t u x is = rw is (omega arith)
 
 pub body_smaller : (t o : Tm) (name : List ℕ) (u : Typ) (x : Tm) → t ≡ abs u x → o ≡ opened 0 (free name u) x → size_of o < size_of t
 body_smaller t o name u x is opened_is =

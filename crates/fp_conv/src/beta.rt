@@ -117,7 +117,40 @@ fn closed_again(
     abstracted(alloc, defs, &opening.0, ty, &inner)
 }
 
+#[cycle(reduced)]
+fn reduced_application(
+    alloc: Global,
+    defs: &Defs,
+    fun: &Term,
+    arg: &Term,
+    depth: u32,
+) -> Result<Thm, AllocError>
+    requires { IsTyped (signature_of defs.now) (app fun.now arg.now) }
+    ensures { IfOk result (Reduction defs.now (app fun.now arg.now)) }
+{
+    let functions = reduced(alloc, defs, fun, depth)?;
+    let arguments = reduced(alloc, defs, arg, depth)?;
+    applied(alloc, defs, fun, arg, functions, arguments)
+}
+
+#[cycle(reduced)]
+fn reduced_abstraction(
+    alloc: Global,
+    defs: &Defs,
+    ty: &Ty,
+    body: &Term,
+    depth: u32,
+) -> Result<Thm, AllocError>
+    requires { IsTyped (signature_of defs.now) (abs ty.now body.now) }
+    ensures { IfOk result (Reduction defs.now (abs ty.now body.now)) }
+{
+    let opening = opening(alloc, depth, ty, body, body, &[])?;
+    let inner = reduced(alloc, defs, &opening.1, depth.saturating_add(1))?;
+    closed_again(alloc, defs, ty, body, opening, inner)
+}
+
 // All outermost redexes are contracted, and those that then stand where an application stood.
+#[cycle(reduced)]
 fn reduced(alloc: Global, defs: &Defs, term: &Term, depth: u32) -> Result<Thm, AllocError>
     requires { IsTyped (signature_of defs.now) term.now }
     ensures { IfOk result (Reduction defs.now term.now) }
@@ -130,16 +163,10 @@ fn reduced(alloc: Global, defs: &Defs, term: &Term, depth: u32) -> Result<Thm, A
     }
     match term.node() {
         Node::App { fun, arg } => {
-            let functions = reduced(alloc, defs, fun, depth)?;
-            let arguments = reduced(alloc, defs, arg, depth)?;
-            let made = applied(alloc, defs, fun, arg, functions, arguments)?;
+            let made = reduced_application(alloc, defs, fun, arg, depth)?;
             contracted_after(alloc, defs, term, made)
         }
-        Node::Abs { ty, body } => {
-            let opening = opening(alloc, depth, ty, body, body, &[])?;
-            let inner = reduced(alloc, defs, &opening.1, depth.saturating_add(1))?;
-            closed_again(alloc, defs, ty, body, opening, inner)
-        }
+        Node::Abs { ty, body } => reduced_abstraction(alloc, defs, ty, body, depth),
         _ => unreachable!(),
     }
 }
