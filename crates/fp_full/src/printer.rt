@@ -1,7 +1,7 @@
 // Prints terms and statements.
 ghost use Rattle.std.specs.Prelude.{◌≡◌, ◌++◌, ◌∷◌, [], List, OnOk, IfOk};
 ghost use Rattle.std.specs.Fmt.{decimal};
-ghost use Rattle.fp_term.specs.Terms.{Tm};
+ghost use Rattle.fp_term.specs.Terms.{Tm, app, abs};
 ghost use Rattle.fp_full.specs.Grammar.{IsNamed, AreNamed};
 ghost use Rattle.fp_full.specs.Printing.{printed, printed_type, printed_types, printed_each, printed_statement};
 ghost use Rattle.fp_full.specs.Texts.{IsText, a_term, a_statement};
@@ -55,6 +55,7 @@ fn print_each_onto(out: &mut Vec<u8>, terms: &[Term]) -> Result<(), AllocError>
     Ok(())
 }
 
+#[cycle(print_term)]
 fn print_term_onto(out: &mut Vec<u8>, term: &Term) -> Result<(), AllocError>
     ensures { OnOk result (out.new.items ≡ out.old.items ++ printed term.now) }
 {
@@ -62,19 +63,29 @@ fn print_term_onto(out: &mut Vec<u8>, term: &Term) -> Result<(), AllocError>
         Node::Bound(number) => print_bound_onto(out, *number),
         Node::Free { name, ty } => print_typed_onto(out, b"(v ", name, ty),
         Node::Const { name, ty } => print_typed_onto(out, b"(c ", name, ty),
-        Node::App { fun, arg } => {
-            out.extend_from_slice(b"(a ")?;
-            print_term_onto(out, fun)?;
-            out.push(b' ')?;
-            print_term_onto(out, arg)?;
-            out.extend_from_slice(b")")
-        }
-        Node::Abs { ty, body } => {
-            print_binder_onto(out, ty)?;
-            print_term_onto(out, body)?;
-            out.extend_from_slice(b")")
-        }
+        Node::App { fun, arg } => print_application_onto(out, fun, arg),
+        Node::Abs { ty, body } => print_abstraction_onto(out, ty, body),
     }
+}
+
+#[cycle(print_term)]
+fn print_application_onto(out: &mut Vec<u8>, fun: &Term, arg: &Term) -> Result<(), AllocError>
+    ensures { OnOk result (out.new.items ≡ out.old.items ++ printed (app fun.now arg.now)) }
+{
+    out.extend_from_slice(b"(a ")?;
+    print_term_onto(out, fun)?;
+    out.push(b' ')?;
+    print_term_onto(out, arg)?;
+    out.extend_from_slice(b")")
+}
+
+#[cycle(print_term)]
+fn print_abstraction_onto(out: &mut Vec<u8>, ty: &Ty, body: &Term) -> Result<(), AllocError>
+    ensures { OnOk result (out.new.items ≡ out.old.items ++ printed (abs ty.now body.now)) }
+{
+    print_binder_onto(out, ty)?;
+    print_term_onto(out, body)?;
+    out.extend_from_slice(b")")
 }
 
 // An abstraction's opening, its type and a space.
