@@ -1,3 +1,4 @@
 pub mod Loose
+mod Later
 mod Sizes
 pub mod Unused

@@ -1,5 +1,5 @@
 // Prints terms, types and statements in the short form.
-ghost use Rattle.std.specs.Prelude.{◌≡◌, ◌++◌, OnOk, IfOk};
+ghost use Rattle.std.specs.Prelude.{◌≡◌, ◌++◌, codes, OnOk, IfOk};
 ghost use Rattle.fp_print.specs.Numbers.{HasOnly, AllHaveOnly};
 ghost use Rattle.fp_print.specs.Texts.{text_among, later_hypotheses, hypotheses, short_term, short_statement};
 ghost use Rattle.fp_print.specs.Types.{short_type};
@@ -72,14 +72,22 @@ fn print_among(out: &mut Vec<u8>, used: &[Name], term: &Term) -> Result<(), Allo
     print_placed(out, used, 0, Place::Alone, term)
 }
 
+// A hypothesis after the first.
+fn print_next(out: &mut Vec<u8>, used: &[Name], hyp: &Term) -> Result<(), AllocError>
+    requires { HasOnly 0 hyp.now }
+    ensures { OnOk result (out.new.items ≡ out.old.items ++ (codes ", " ++ text_among used.now hyp.now)) }
+{
+    out.extend_from_slice(b", ")?;
+    print_among(out, used, hyp)
+}
+
 // The hypotheses after the first, and a space.
 fn print_later(out: &mut Vec<u8>, used: &[Name], hyps: &[Term]) -> Result<(), AllocError>
     requires { AllHaveOnly 0 hyps.now }
     ensures { OnOk result (out.new.items ≡ out.old.items ++ later_hypotheses used.now hyps.now) }
 {
     for hyp in hyps {
-        out.extend_from_slice(b", ")?;
-        print_among(out, used, hyp)?;
+        print_next(out, used, hyp)?;
     }
     out.extend_from_slice(b" ")
 }
