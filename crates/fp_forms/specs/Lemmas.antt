@@ -1,5 +1,4 @@
 -- Lemmas for the variables `p` and `q`, which are derived once and of which instances are taken.
-use Rattle.std.specs.Prelude.{Bool}
 use Rattle.fp_term.specs.Terms.{Tm}
 use Rattle.fp_conclude.specs.Logic.{truth_type, equal, true_constant, conjunction, implication}
 use Rattle.fp_forms.specs.Schemas.{p_variable, q_variable, held, both_true, choice, chosen, implied}

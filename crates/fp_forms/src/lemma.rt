@@ -1,4 +1,5 @@
 //! The lemmas that are derived once.
+
 /// A lemma for the variables `p` and `q`.
 #[derive(Clone, Copy)]
 pub enum Lemma {

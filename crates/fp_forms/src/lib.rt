@@ -4,6 +4,7 @@
 mod choosers;
 mod lemma;
 mod parts;
+mod quantifiers;
 pub mod shapes;
 mod statements;
 mod variables;
@@ -11,6 +12,7 @@ mod variables;
 pub use choosers::{applying, chooser};
 pub use lemma::Lemma;
 pub use parts::{conjunction_parts, implication_parts, parts_by};
+pub use quantifiers::{existence_parts, quantified};
 pub use statements::{
     applying_truths, applying_variables, chosen, conjunction_of_variables, equivalent,
     held_variable, identity, statement, truths,

@@ -1,5 +1,5 @@
 -- What the forms of `?` ask, once they have accepted their premises, and what they give.
-use Rattle.std.proofs.Common.{◌≡◌, ◌∙◌, ℕ, true, false, List, [], ◌∷◌, refl, sym, ap, subst}
+use Rattle.std.proofs.Common.{◌≡◌, ◌∙◌, ℕ, true, false, List, ◌∷◌, refl, sym, ap, subst}
 use Rattle.std.specs.Prelude.{Some}
 use Rattle.fp_term.specs.Types.{Typ, type_eq}
 use Rattle.fp_term.specs.Terms.{Tm, free, abs, term_eq, opened}
@@ -14,13 +14,14 @@ use Rattle.fp_kernel.specs.Start.{signature_of}
 use Rattle.fp_kernel.specs.Theorems.{Theorem, IsTheorem, from_one}
 use Rattle.fp_forms.specs.Shapes.{argument_in, body_in, IsAbstraction}
 use Rattle.fp_logic.specs.Steps.{by_one}
-use Rattle.fp_quant.specs.Existential.{existence_parts, witness_type, witnessed, exists_of}
+use Rattle.fp_forms.specs.Quantified.{existence_parts}
+use Rattle.fp_quant.specs.Existential.{witness_type, witnessed, exists_of}
 use Rattle.fp_quant.specs.Existence.{IsPredicate, IsExistence}
 use Rattle.fp_quant.proofs.Existing.{some_predicate}
 use Rattle.fp_quant.proofs.Parted.{existence_shape, existence_at, abstraction_at, body_at, concl_apart, rest_apart, predicate_apart, witness_typed}
 
 -- `choose`
-module _ (defs : List Def) (name : List ℕ) (ty : Typ) (a b : Theorem) (s : Typ) (body p h : Tm) (w : Within a.defs defs) (d : IsTheorem a)
+module _ (defs : List Def) (name : List ℕ) (ty : Typ) (a b : Theorem) (s : Typ) (body p : Tm) (w : Within a.defs defs) (d : IsTheorem a)
     (is : existence_parts a.concl ≡ Some (s, body)) (at : p ≡ argument_in a.concl) where
   pub choose_existence : type_eq ty s ≡ true → IsExistence defs a ty p
   choose_existence same = subst (λ (x : Typ). IsExistence defs a x p) (sym ((type_eq-decides ty s).0 same)) (existence_at defs a s body p w d is at)
@@ -28,18 +29,17 @@ module _ (defs : List Def) (name : List ℕ) (ty : Typ) (a b : Theorem) (s : Typ
   pub choose_abstraction : IsAbstraction p
   choose_abstraction = abstraction_at defs a s body p w d is at
 
-  pub choose_held : h ≡ opened 0 (free name ty) body → h ≡ opened 0 (free name ty) (body_in p)
-  choose_held held = held ∙ ap (opened 0 (free name ty)) (sym (body_at defs a s body p w d is at))
-
-  module _ (apart : occurs_in_any name ty (b.concl ∷ a.concl ∷ without h b.hyps) ≡ false) where
-    pub choose_rest : h ≡ opened 0 (free name ty) body → occurs_in_any name ty (without (opened 0 (free name ty) (body_in p)) b.hyps) ≡ false
-    choose_rest held = subst (λ (x : Tm). occurs_in_any name ty (without x b.hyps) ≡ false) (choose_held held) (rest_apart name ty p a b.concl (without h b.hyps) apart)
+  module _ (apart : occurs_in_any name ty (b.concl ∷ a.concl ∷ without (opened 0 (free name ty) body) b.hyps) ≡ false) where
+    pub choose_rest : occurs_in_any name ty (without (opened 0 (free name ty) (body_in p)) b.hyps) ≡ false
+    choose_rest =
+        subst (λ (x : Tm). occurs_in_any name ty (without (opened 0 (free name ty) x) b.hyps) ≡ false) (sym (body_at defs a s body p w d is at))
+        (rest_apart name ty p a b.concl (without (opened 0 (free name ty) body) b.hyps) apart)
 
     pub choose_predicate : occurs name ty p ≡ false
-    choose_predicate = predicate_apart name ty p a b.concl (without h b.hyps) apart s (existence_at defs a s body p w d is at).1
+    choose_predicate = predicate_apart name ty p a b.concl (without (opened 0 (free name ty) body) b.hyps) apart s (existence_at defs a s body p w d is at).1
 
     pub choose_concl : occurs name ty b.concl ≡ false
-    choose_concl = concl_apart name ty p a b.concl (without h b.hyps) apart
+    choose_concl = concl_apart name ty p a b.concl (without (opened 0 (free name ty) body) b.hyps) apart
 
 -- `exists`
 module _ (g : Signature) (t u : Tm) (s ty : Typ) (body : Tm) (checked : witness_type g t u ≡ gives s) (is : existence_parts t ≡ Some (ty, body)) (same : type_eq s ty ≡ true) where

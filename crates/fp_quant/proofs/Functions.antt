@@ -20,7 +20,8 @@ use Rattle.fp_conclude.specs.Outcomes.{gives}
 use Rattle.fp_conclude.specs.Rules.{inst_of, inst_ty_of}
 use Rattle.fp_conclude.proofs.Gives.{inst_gives, inst_ty_gives}
 use Rattle.fp_kernel.specs.Definitions.{Def, Within, whole}
-use Rattle.fp_kernel.specs.Start.{signature_of, eta}
+use Rattle.fp_kernel.specs.Start.{signature_of}
+use Rattle.fp_conclude.specs.Axioms.{eta}
 use Rattle.fp_kernel.specs.Theorems.{Theorem, IsTheorem, ArePromises, stands, from_one}
 use Rattle.fp_kernel.proofs.Growing.{from_start}
 use Rattle.fp_logic.specs.Steps.{plain, by_one, by_both, CanChain, chained}

@@ -1,10 +1,10 @@
 -- What has the parts of `?v. p` is that, and what was checked is well typed.
-use Rattle.std.proofs.Common.{◌≡◌, ◌∙◌, ℕ, false, List, [], ◌∷◌, refl, sym, ap, subst}
+use Rattle.std.proofs.Common.{◌≡◌, ◌∙◌, ℕ, false, List, ◌∷◌, refl, sym, ap, subst}
 use Rattle.std.specs.Prelude.{Option, Some, None, codes}
 use Rattle.std.proofs.lemmas.Option.{none-some, same_Some}
 use Rattle.fp_term.specs.declared.signature.Signature.{Signature}
 use Rattle.fp_term.specs.Types.{Typ}
-use Rattle.fp_term.specs.Terms.{Tm, free, app, abs, term_eq}
+use Rattle.fp_term.specs.Terms.{Tm, app, abs, term_eq}
 use Rattle.fp_term.specs.Signatures.{IsWellTyped, first_of, unknown_in}
 use Rattle.fp_term.proofs.Choices.{chosen}
 use Rattle.fp_term.proofs.Equal.{term_eq-decides}
@@ -17,7 +17,8 @@ use Rattle.fp_conclude.proofs.Outcomes.{unless_gives, followed_gives}
 use Rattle.fp_kernel.specs.Definitions.{Def, Within}
 use Rattle.fp_kernel.specs.Theorems.{Theorem, IsTheorem}
 use Rattle.fp_forms.specs.Shapes.{argument_in, body_in, IsAbstraction}
-use Rattle.fp_quant.specs.Existential.{existence_parts, witness_type}
+use Rattle.fp_forms.specs.Quantified.{existence_parts}
+use Rattle.fp_quant.specs.Existential.{witness_type}
 use Rattle.fp_quant.specs.Existence.{some_such, IsExistence}
 use Rattle.fp_quant.proofs.Existing.{existence}
 use Rattle.fp_quant.proofs.Reached.{is_abstraction, neither}

@@ -1,5 +1,5 @@
 -- Instances of what has no hypotheses.
-use Rattle.std.proofs.Common.{◌≡◌, ℕ, true, List, [], ◌∷◌, refl, sym, ap, subst}
+use Rattle.std.proofs.Common.{◌≡◌, ℕ, true, List, [], refl, sym, ap, subst}
 use Rattle.std.specs.Prelude.{None, Result, IfOk, codes}
 use Rattle.fp_term.specs.Names.{function}
 use Rattle.fp_term.specs.Types.{Typ, type_eq}

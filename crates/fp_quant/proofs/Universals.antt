@@ -10,7 +10,8 @@ use Rattle.fp_conclude.specs.Outcomes.{gives}
 use Rattle.fp_conclude.specs.Rules.{lam_of, inst_ty_of}
 use Rattle.fp_conclude.proofs.Gives.{lam_gives, inst_ty_gives}
 use Rattle.fp_kernel.specs.Definitions.{Def, Within, whole}
-use Rattle.fp_kernel.specs.Start.{signature_of, connective_numbered}
+use Rattle.fp_kernel.specs.Start.{signature_of}
+use Rattle.fp_conclude.specs.Axioms.{connective_numbered}
 use Rattle.fp_kernel.specs.Derivability.{IsFormula}
 use Rattle.fp_kernel.specs.Theorems.{Theorem, IsTheorem, stands, from_one}
 use Rattle.fp_forms.specs.Shapes.{side_type, left, right, IsEquation}

@@ -1,21 +1,17 @@
 -- What each derived form of `?` concludes from its premises, or why it concludes nothing.
-use Rattle.std.specs.Prelude.{ℕ, if◌then◌else◌, List, [], ◌∷◌, Option, Some, None, codes}
+use Rattle.std.specs.Prelude.{ℕ, if◌then◌else◌, List, [], ◌∷◌}
 use Rattle.fp_term.specs.Types.{Typ, type_eq}
-use Rattle.fp_term.specs.Terms.{Tm, free, app, abs, term_eq, opened}
+use Rattle.fp_term.specs.Terms.{Tm, free, abs, term_eq, opened}
 use Rattle.fp_term.specs.Signatures.{first_of, unknown_in_type, unknown_in}
 use Rattle.fp_term.specs.declared.signature.Signature.{Signature}
-use Rattle.fp_conclude.specs.Logic.{quantifier, select}
+use Rattle.fp_conclude.specs.Logic.{select}
 use Rattle.fp_conclude.specs.Hypotheses.{union, without, occurs_in_any}
 use Rattle.fp_conclude.specs.Checks.{typed}
 use Rattle.fp_conclude.specs.Outcomes.{Outcome, gives, refused, unless, followed_by, with_part, unknown_name, ill_typed_at, shape, differ, free_in_hyps}
 use Rattle.fp_kernel.specs.Definitions.{Def}
 use Rattle.fp_kernel.specs.Start.{signature_of}
 use Rattle.fp_kernel.specs.Theorems.{Theorem, promise_union}
-
--- the type of `v` and the body of `?v. p`
-abbrev pub existence_parts : Tm → Option (Typ × Tm)
-existence_parts (app c (abs s p)) = if term_eq c (quantifier (codes "ex") s) then Some (s, p) else None
-existence_parts _ = None
+use Rattle.fp_forms.specs.Quantified.{existence_parts}
 
 -- the type of the second of two terms, where both are well typed over the signature
 abbrev pub witness_type : Signature → Tm → Tm → Outcome Typ

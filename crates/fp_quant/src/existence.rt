@@ -3,7 +3,7 @@
 ghost use Rattle.std.specs.Prelude.{◌≡◌, IfOk};
 ghost use Rattle.fp_term.specs.Terms.{bound, app};
 ghost use Rattle.fp_conclude.specs.Logic.{truth_type, alpha, equal, implication};
-ghost use Rattle.fp_kernel.specs.Start.{selection};
+ghost use Rattle.fp_conclude.specs.Axioms.{selection};
 ghost use Rattle.fp_forms.specs.Schemas.{q_variable};
 ghost use Rattle.fp_forms.specs.Shapes.{body_in};
 ghost use Rattle.fp_logic.specs.Steps.{plain, from_itself, by_one, by_both};

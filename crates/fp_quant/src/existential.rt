@@ -9,34 +9,17 @@ ghost use Rattle.fp_conclude.specs.Outcomes.{Answers, gives};
 ghost use Rattle.fp_kernel.specs.Definitions.{Within};
 ghost use Rattle.fp_kernel.specs.Start.{signature_of};
 ghost use Rattle.fp_kernel.specs.Theorems.{from_one};
-ghost use Rattle.fp_quant.specs.Existential.{existence_parts, witness_type, witnessed, exists_of, chosen_by, choose_from, select_of};
+ghost use Rattle.fp_forms.specs.Quantified.{existence_parts};
+ghost use Rattle.fp_quant.specs.Existential.{witness_type, witnessed, exists_of, chosen_by, choose_from, select_of};
 
 use crate::fault::{free_in_hyps, unknown_name};
 use crate::witness::{chosen, eliminated, witnessed};
-use fp_conclude::{RuleFault, differ, occurs, occurs_in_any, quantifier, without};
+use fp_conclude::{RuleFault, differ, occurs, occurs_in_any, without};
+use fp_forms::existence_parts;
 use fp_forms::shapes::argument_in;
 use fp_kernel::{Defs, Thm};
-use fp_term::{Name, Node, Place, Signature, Term, Ty, open_with, same, type_of};
+use fp_term::{Name, Place, Signature, Term, Ty, open_with, same, type_of};
 use std::alloc::{AllocError, Global};
-
-// The type of `v` and the body of `?v. p`.
-#[tactic(auto, unfolding(fp_term::specs::Names::is_name))]
-fn existence_parts(alloc: Global, term: &Term) -> Result<Option<(&Ty, &Term)>, AllocError>
-    ensures { IfOk result (λ o. MatchOption o (existence_parts term.now ≡ None) (λ p. existence_parts term.now ≡ Some (p.0.now, p.1.now))) }
-{
-    let Node::App { fun, arg } = term.node() else {
-        return Ok(None);
-    };
-    let Node::Abs { ty, body } = arg.node() else {
-        return Ok(None);
-    };
-    let constant = quantifier(alloc, b"ex", ty)?;
-    if same(fun, &constant) {
-        Ok(Some((ty, body)))
-    } else {
-        Ok(None)
-    }
-}
 
 fn typed(alloc: Global, term: &Term) -> Result<Ty, RuleFault>
     ensures { Answers result (typed term.now) }
@@ -130,18 +113,19 @@ fn held_by(alloc: Global, name: &Name, ty: &Ty, body: &Term) -> Result<Term, All
     open_with(alloc, body, &variable)
 }
 
-// Is the variable free in either conclusion or in a hypothesis of the second theorem but that one?
+// Is the variable free in either conclusion or in a hypothesis of the second theorem other than `p` with `x` for `v`?
 fn is_free(
     alloc: Global,
     name: &Name,
     ty: &Ty,
     a: &Thm,
     b: &Thm,
-    held: &Term,
+    body: &Term,
 ) -> Result<bool, AllocError>
-    ensures { IfOk result (λ free. free ≡ occurs_in_any name.now ty.now (b.now.concl ∷ a.now.concl ∷ without held.now b.now.hyps)) }
+    ensures { IfOk result (λ yes. yes ≡ occurs_in_any name.now ty.now (b.now.concl ∷ a.now.concl ∷ without (opened 0 (free name.now ty.now) body.now) b.now.hyps)) }
 {
-    let rest = without(alloc, held, b.hyps())?;
+    let held = held_by(alloc, name, ty, body)?;
+    let rest = without(alloc, &held, b.hyps())?;
     let in_rest = occurs_in_any(name, ty, rest.as_slice());
     Ok(occurs(name, ty, b.concl()) || (occurs(name, ty, a.concl()) || in_rest))
 }
@@ -162,8 +146,7 @@ fn chosen_by(
     requires parts { existence_parts a.now.concl ≡ Some (bound.now, body.now) }
     ensures { Answers result (chosen_by defs.now name.now ty.now a.now b.now (bound.now, body.now)) }
 {
-    let held = held_by(alloc, name, ty, body)?;
-    if is_free(alloc, name, ty, a, b, &held)? {
+    if is_free(alloc, name, ty, a, b, body)? {
         return Err(free_in_hyps(name));
     }
     if !ty.equals(bound) {

@@ -4,6 +4,7 @@ ghost use Rattle.std.specs.Option.{option_copied};
 ghost use Rattle.fp_term.specs.Terms.{free};
 ghost use Rattle.fp_term.specs.Typing.{function_type};
 ghost use Rattle.fp_term.specs.Signatures.{IsType, IsWellTyped};
+ghost use Rattle.fp_conclude.specs.Logic.{equal};
 ghost use Rattle.fp_conclude.specs.Hypotheses.{occurs, occurs_in_any};
 ghost use Rattle.fp_conclude.specs.Outcomes.{Answers};
 ghost use Rattle.fp_kernel.specs.Definitions.{Within};
@@ -12,11 +13,11 @@ ghost use Rattle.fp_kernel.specs.Theorems.{from_one};
 ghost use Rattle.fp_logic.specs.Steps.{plain, by_one};
 ghost use Rattle.fp_quant.specs.Extensional.{type_of, alike_at, left_expanded, both_expanded, right_expanded, alike, is_free};
 ghost use Rattle.fp_quant.specs.Meanings.{eta_at};
-ghost use Rattle.fp_quant.specs.Universal.{applied_to_variable, same_functions, ext_of};
+ghost use Rattle.fp_quant.specs.Universal.{applied_to_variable, same_functions, same_values, ext_of};
 
 use crate::fault::{free_in_hyps, unknown_name};
 use crate::steps::{abstracted, extension, for_alpha, for_beta};
-use fp_conclude::{RuleFault, occurs, occurs_in_any, sides};
+use fp_conclude::{Equation, RuleFault, occurs, occurs_in_any, sides};
 use fp_forms::shapes::left;
 use fp_kernel::{Defs, Thm};
 use fp_logic::equations::swap;
@@ -185,17 +186,20 @@ fn same_functions(
     Ok(extended(alloc, defs, name, functions, a)?)
 }
 
-/// `f = g` from `f x = g x`.
-pub fn ext(alloc: Global, defs: &Defs, name: &Name, ty: &Ty, a: &Thm) -> Result<Thm, RuleFault>
-    requires { Within a.now.defs defs.now }
-    ensures { Answers result (from_one defs.now a.now a.now.hyps (ext_of (signature_of defs.now) name.now ty.now a.now.hyps a.now.concl)) }
+// `f = g` from `f x = g x`, by the parts of the equation.
+fn same_values(
+    alloc: Global,
+    defs: &Defs,
+    name: &Name,
+    ty: &Ty,
+    sides: &Equation<'_>,
+    a: &Thm,
+) -> Result<Thm, RuleFault>
+    requires within { Within a.now.defs defs.now }
+    requires known { IsType (signature_of defs.now) ty.now }
+    requires shape { a.now.concl ≡ equal sides.now.ty.now sides.now.left.now sides.now.right.now }
+    ensures { Answers result (from_one defs.now a.now a.now.hyps (same_values name.now ty.now a.now.hyps (sides.now.ty.now, sides.now.left.now, sides.now.right.now))) }
 {
-    if let Some(unknown) = defs.signature().unknown_in_type(ty) {
-        return Err(unknown_name(unknown));
-    }
-    let Some(sides) = sides(a.concl()) else {
-        return Err(RuleFault::NotEquation);
-    };
     let Some(left) = applied_to_variable(alloc, name, ty, sides.left)? else {
         return Err(RuleFault::Shape);
     };
@@ -209,4 +213,18 @@ pub fn ext(alloc: Global, defs: &Defs, name: &Name, ty: &Ty, a: &Thm) -> Result<
         right,
     };
     same_functions(alloc, defs, name, &functions, a)
+}
+
+/// `f = g` from `f x = g x`.
+pub fn ext(alloc: Global, defs: &Defs, name: &Name, ty: &Ty, a: &Thm) -> Result<Thm, RuleFault>
+    requires { Within a.now.defs defs.now }
+    ensures { Answers result (from_one defs.now a.now a.now.hyps (ext_of (signature_of defs.now) name.now ty.now a.now.hyps a.now.concl)) }
+{
+    if let Some(unknown) = defs.signature().unknown_in_type(ty) {
+        return Err(unknown_name(unknown));
+    }
+    let Some(sides) = sides(a.concl()) else {
+        return Err(RuleFault::NotEquation);
+    };
+    same_values(alloc, defs, name, ty, &sides, a)
 }

@@ -3,17 +3,18 @@ ghost use Rattle.std.specs.Prelude.{◌≡◌, codes, IfOk};
 ghost use Rattle.fp_term.specs.Terms.{app};
 ghost use Rattle.fp_term.specs.Signatures.{IsWellTyped};
 ghost use Rattle.fp_conclude.specs.Logic.{quantifier};
-ghost use Rattle.fp_conclude.specs.Outcomes.{Answers};
+ghost use Rattle.fp_conclude.specs.Checks.{typed_over};
+ghost use Rattle.fp_conclude.specs.Outcomes.{Answers, gives};
 ghost use Rattle.fp_kernel.specs.Definitions.{Within};
 ghost use Rattle.fp_kernel.specs.Start.{signature_of};
 ghost use Rattle.fp_kernel.specs.Theorems.{from_one};
 ghost use Rattle.fp_logic.specs.Steps.{by_one};
-ghost use Rattle.fp_quant.specs.Universal.{value_at, gen_all_of, spec_of};
+ghost use Rattle.fp_quant.specs.Universal.{value_at, gen_all_of, specialized_at, spec_of};
 
 use crate::fault::{free_in_hyps, unknown_name};
-use crate::quantified::quantified;
 use crate::universal::{applied_to, generalized, specialized};
 use fp_conclude::{RuleFault, occurs_in_any, typed_over};
+use fp_forms::quantified;
 use fp_kernel::{Defs, Thm};
 use fp_term::{Name, Node, Place, Term, Ty};
 use std::alloc::{AllocError, Global};
@@ -53,6 +54,27 @@ fn instance(
     }
 }
 
+// `P` at `t`, of the type, from `all P`, where that is the type of which it speaks.
+fn specialized_at(
+    alloc: Global,
+    defs: &Defs,
+    a: &Thm,
+    of_term: &Ty,
+    term: &Term,
+    ty: &Ty,
+    predicate: &Term,
+) -> Result<Thm, RuleFault>
+    requires within { Within a.now.defs defs.now }
+    requires shape { a.now.concl ≡ app (quantifier (codes "all") ty.now) predicate.now }
+    requires typed { typed_over (signature_of defs.now) term.now ≡ gives of_term.now }
+    ensures { Answers result (from_one defs.now a.now a.now.hyps (specialized_at term.now of_term.now (ty.now, predicate.now))) }
+{
+    if !of_term.equals(ty) {
+        return Err(RuleFault::IllTyped(Place::here(alloc)));
+    }
+    Ok(instance(alloc, defs, a, ty, predicate, term)?)
+}
+
 /// `p` with `t` in place of `v` from `!v. p`, and `P t` from `all P`.
 #[tactic(auto, unfolding(fp_term::specs::Names::is_name))]
 pub fn spec(alloc: Global, defs: &Defs, a: &Thm, term: &Term) -> Result<Thm, RuleFault>
@@ -63,8 +85,5 @@ pub fn spec(alloc: Global, defs: &Defs, a: &Thm, term: &Term) -> Result<Thm, Rul
     let Some((ty, predicate)) = quantified(alloc, b"all", a.concl())? else {
         return Err(RuleFault::Shape);
     };
-    if !of_term.equals(ty) {
-        return Err(RuleFault::IllTyped(Place::here(alloc)));
-    }
-    Ok(instance(alloc, defs, a, ty, predicate, term)?)
+    specialized_at(alloc, defs, a, &of_term, term, ty, predicate)
 }

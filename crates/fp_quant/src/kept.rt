@@ -3,7 +3,8 @@ ghost use Rattle.std.specs.Prelude.{◌≡◌, [], IfOk};
 ghost use Rattle.fp_term.specs.Terms.{bound, app};
 ghost use Rattle.fp_conclude.specs.Logic.{alpha, implication};
 ghost use Rattle.fp_logic.specs.Steps.{plain};
-ghost use Rattle.fp_quant.specs.Existence.{predicate_variable, at_choice};
+ghost use Rattle.fp_forms.specs.Schemas.{q_variable};
+ghost use Rattle.fp_quant.specs.Existence.{predicate_variable, reaches, at_choice};
 ghost use Rattle.fp_quant.specs.Kept.{statement_of};
 ghost use Rattle.fp_quant.specs.declared.kept.Schema.TheVariants.{Introduction, Elimination, Choice};
 
@@ -36,13 +37,21 @@ fn introduction_is(alloc: Global) -> Result<Term, AllocError>
     implication(alloc, &held, &some)
 }
 
+// `(!x. P x --> q) --> q`
+fn reaches(alloc: Global) -> Result<Term, AllocError>
+    ensures { IfOk result (λ t. t ≡ reaches alpha predicate_variable q_variable) }
+{
+    let each = each_implies(alloc)?;
+    let variable = q_variable(alloc)?;
+    implication(alloc, &each, &variable)
+}
+
 // `ex P --> (!x. P x --> q) --> q`
 fn elimination_is(alloc: Global) -> Result<Term, AllocError>
     ensures { IfOk result (λ t. t ≡ statement_of Elimination) }
 {
-    let each = each_implies(alloc)?;
-    let reaches = implication(alloc, &each, &q_variable(alloc)?)?;
     let some = some(alloc)?;
+    let reaches = reaches(alloc)?;
     implication(alloc, &some, &reaches)
 }
 

@@ -8,7 +8,6 @@ mod fault;
 mod general;
 mod kept;
 mod placing;
-mod quantified;
 mod steps;
 mod universal;
 mod witness;

@@ -9,6 +9,7 @@ ghost use Rattle.fp_kernel.specs.Definitions.{Within};
 ghost use Rattle.fp_kernel.specs.Derivability.{IsFormula};
 ghost use Rattle.fp_kernel.specs.Start.{signature_of};
 ghost use Rattle.fp_logic.specs.Steps.{plain};
+ghost use Rattle.fp_quant.specs.Kept.{statement_of};
 ghost use Rattle.fp_quant.specs.Existence.{some_such, reaches, each_chosen, for_alpha, placed, IsPredicate};
 
 use crate::kept::{Schema, recalled};
@@ -30,6 +31,15 @@ fn retyped(alloc: Global, defs: &Defs, th: &Thm, ty: &Ty) -> Result<Thm, AllocEr
     given(defs.inst_ty(alloc, th, &pairs))
 }
 
+// What is derived for variables, over the definitions and with a type for `'a`.
+fn typed(alloc: Global, defs: &Defs, schema: Schema, ty: &Ty) -> Result<Thm, AllocError>
+    requires { IsType (signature_of defs.now) ty.now }
+    ensures { IfOk result (λ th. th ≡ plain defs.now (retyped_term (for_alpha ty.now) (statement_of schema))) }
+{
+    let general = recalled(alloc, defs, schema)?;
+    retyped(alloc, defs, &general, ty)
+}
+
 // A term for the variable of that name and type.
 fn pair(alloc: Global, name: &[u8], ty: &Ty, term: &Term) -> Result<(Name, Ty, Term), AllocError>
     requires { IsTrue (is_name name.now) }
@@ -45,6 +55,15 @@ fn for_predicate(alloc: Global, ty: &Ty, predicate: &Term) -> Result<(Name, Ty, 
 {
     let of_predicate = predicate_over(alloc, ty)?;
     pair(alloc, b"P", &of_predicate, predicate)
+}
+
+// A formula for `q`.
+#[tactic(auto, unfolding(fp_term::specs::Names::is_name))]
+fn for_formula(alloc: Global, formula: &Term) -> Result<(Name, Ty, Term), AllocError>
+    ensures { IfOk result (λ p. p ≡ (codes "q", truth_type, formula.now)) }
+{
+    let ty = truth_type(alloc)?;
+    pair(alloc, b"q", &ty, formula)
 }
 
 // The instance by a predicate for `P` and by a term for another variable.
@@ -77,14 +96,12 @@ pub(crate) fn introduction_at(
     requires typed { IsWellTyped (signature_of defs.now) term.now ty.now }
     ensures { IfOk result (λ th. th ≡ plain defs.now (implication (app predicate.now term.now) (some_such ty.now predicate.now))) }
 {
-    let schema = recalled(alloc, defs, Schema::Introduction)?;
-    let typed = retyped(alloc, defs, &schema, ty)?;
+    let typed = typed(alloc, defs, Schema::Introduction, ty)?;
     let other = pair(alloc, b"x", ty, term)?;
     with_terms(alloc, defs, &typed, ty, predicate, other)
 }
 
 /// `ex P --> (!x. P x --> q) --> q`
-#[tactic(auto, unfolding(fp_term::specs::Names::is_name))]
 pub(crate) fn elimination_at(
     alloc: Global,
     defs: &Defs,
@@ -96,9 +113,8 @@ pub(crate) fn elimination_at(
     requires formula { IsFormula (signature_of defs.now) formula.now }
     ensures { IfOk result (λ th. th ≡ plain defs.now (implication (some_such ty.now predicate.now) (reaches ty.now predicate.now formula.now))) }
 {
-    let schema = recalled(alloc, defs, Schema::Elimination)?;
-    let typed = retyped(alloc, defs, &schema, ty)?;
-    let other = pair(alloc, b"q", &truth_type(alloc)?, formula)?;
+    let typed = typed(alloc, defs, Schema::Elimination, ty)?;
+    let other = for_formula(alloc, formula)?;
     with_terms(alloc, defs, &typed, ty, predicate, other)
 }
 
@@ -112,8 +128,7 @@ pub(crate) fn choice_at(
     requires { IsPredicate defs.now ty.now predicate.now }
     ensures { IfOk result (λ th. th ≡ plain defs.now (each_chosen ty.now predicate.now)) }
 {
-    let schema = recalled(alloc, defs, Schema::Choice)?;
-    let typed = retyped(alloc, defs, &schema, ty)?;
+    let typed = typed(alloc, defs, Schema::Choice, ty)?;
     let other = for_predicate(alloc, ty, predicate)?;
     with_terms(alloc, defs, &typed, ty, predicate, other)
 }

@@ -1,6 +1,6 @@
 //! Rules on premises of a known form: but for want of memory they give what the form says.
 ghost use Rattle.std.specs.Prelude.{◌≡◌, codes, IfOk};
-ghost use Rattle.fp_kernel.specs.Start.{eta};
+ghost use Rattle.fp_conclude.specs.Axioms.{eta};
 ghost use Rattle.fp_logic.specs.Steps.{plain, by_one};
 ghost use Rattle.fp_quant.specs.Meanings.{CanAbstract, abstractions};
 

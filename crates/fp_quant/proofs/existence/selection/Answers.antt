@@ -1,6 +1,6 @@
 use Rattle.std.proofs.Common.{[], refl}
 use Rattle.fp_conclude.specs.Outcomes.{gives}
-use Rattle.fp_kernel.specs.Start.{selection}
+use Rattle.fp_conclude.specs.Axioms.{selection}
 use Rattle.fp_kernel.specs.Theorems.{stands}
 use Rattle.fp_logic.specs.Steps.{plain}
 use Rattle.fp_logic.proofs.Given.{no_refusal, given_is}

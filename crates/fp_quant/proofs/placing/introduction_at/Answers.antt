@@ -1,16 +1,9 @@
 use Rattle.std.proofs.Common.{refl}
-use Rattle.fp_logic.proofs.Begun.{from_nothing}
 use Rattle.fp_quant.proofs.Placed.{plain_is, introduction_is}
 use Rattle.fp_quant.proofs.placing.introduction_at.Goals as goal
 
-pub retyped-requires-clause-whole : goal.retyped-requires-clause-whole
-retyped-requires-clause-whole c = rw c.in_ok-schema.ensures refl
-
-pub retyped-requires-clause-within : goal.retyped-requires-clause-within
-retyped-requires-clause-within c = rw c.in_ok-schema.ensures (from_nothing c.args.defs.now)
-
-pub retyped-requires-clause-known : goal.retyped-requires-clause-known
-retyped-requires-clause-known c = c.requires.predicate.0
+pub typed-requires : goal.typed-requires
+typed-requires c = c.requires.predicate.0
 
 pub with_terms-requires-clause-whole : goal.with_terms-requires-clause-whole
 with_terms-requires-clause-whole c = rw c.in_ok-typed.ensures refl
@@ -21,4 +14,4 @@ with_terms-requires-clause-typed c = rw c.in_ok-other.ensures (c.requires.predic
 pub returns : goal.returns
 returns c =
     plain_is c.with_terms.result c.args.defs.now _ _ (introduction_is c.args.ty.now c.args.predicate.now c.args.term.now)
-    (rw (c.in_ok-typed.ensures, c.in_ok-schema.ensures, c.in_ok-other.ensures) at c.with_terms.ensures)
+    (rw (c.in_ok-typed.ensures, c.in_ok-other.ensures) at c.with_terms.ensures)

@@ -1,4 +1,3 @@
-use Rattle.std.proofs.Common.{◌≡◌}
 use Rattle.fp_term.specs.Terms.{replaced}
 use Rattle.fp_conclude.specs.Hypotheses.{all_replaced}
 use Rattle.fp_conclude.specs.Rules.{inst_of}

@@ -1,4 +1,4 @@
-use Rattle.std.proofs.Common.{◌≡◌, ◌∙◌, refl, ap}
+use Rattle.std.proofs.Common.{◌∙◌, refl, ap}
 use Rattle.fp_kernel.specs.Definitions.{whole}
 use Rattle.fp_kernel.specs.Theorems.{Theorem}
 use Rattle.fp_forms.specs.Shapes.{left}

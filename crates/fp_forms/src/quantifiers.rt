@@ -5,7 +5,7 @@ ghost use Rattle.fp_term.specs.Names.{is_name};
 ghost use Rattle.fp_term.specs.Types.{Typ};
 ghost use Rattle.fp_term.specs.Terms.{Tm, app};
 ghost use Rattle.fp_conclude.specs.Logic.{quantifier};
-ghost use Rattle.fp_quant.specs.Universal.{domain, quantified};
+ghost use Rattle.fp_forms.specs.Quantified.{domain, quantified, existence_parts};
 
 use fp_conclude::{function_parts, quantifier};
 use fp_term::{Node, Term, Ty, same};
@@ -50,7 +50,7 @@ fn parts_of<'a>(
 }
 
 /// The type and the predicate, where the quantifier of that name over the type is applied to the predicate.
-pub(crate) fn quantified<'a>(
+pub fn quantified<'a>(
     alloc: Global,
     name: &[u8],
     term: &'a Term,
@@ -60,4 +60,23 @@ pub(crate) fn quantified<'a>(
     ensures exact { IfOk result (λ o. MatchOption o ((s : Typ) → (p : Tm) → term.now ≡ app (quantifier name.now s) p → ⊥) (λ p. term.now ≡ app (quantifier name.now p.0.now) p.1.now)) }
 {
     parts_of(alloc, name, term)
+}
+
+/// The type of `v` and the body of `?v. p`.
+#[tactic(auto, unfolding(fp_term::specs::Names::is_name))]
+pub fn existence_parts(alloc: Global, term: &Term) -> Result<Option<(&Ty, &Term)>, AllocError>
+    ensures { IfOk result (λ o. MatchOption o (existence_parts term.now ≡ None) (λ p. existence_parts term.now ≡ Some (p.0.now, p.1.now))) }
+{
+    let Node::App { fun, arg } = term.node() else {
+        return Ok(None);
+    };
+    let Node::Abs { ty, body } = arg.node() else {
+        return Ok(None);
+    };
+    let constant = quantifier(alloc, b"ex", ty)?;
+    if same(fun, &constant) {
+        Ok(Some((ty, body)))
+    } else {
+        Ok(None)
+    }
 }
