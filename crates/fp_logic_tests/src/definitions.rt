@@ -1,8 +1,7 @@
 // Definitions and theorems.
-use crate::full::states;
-use crate::terms::{has_text, is_named, name, term};
 use fp_kernel::{DefFault, Defs, Thm};
 use fp_term::Name;
+use fp_texts::{has_text, name, term};
 use std::alloc::{AllocError, Global};
 use std::test::Fail;
 
@@ -13,16 +12,8 @@ fn define(alloc: Global, defs: &mut Defs, constant: &str, body: &str) -> Result<
 }
 
 // `c = (%x. x)`
-const CONCLUSION: &str =
-    "(a (a (c eq (fun (fun 'a 'a) (fun (fun 'a 'a) (bool)))) (c c (fun 'a 'a))) (l 'a (b 0)))";
-
 const STATEMENT: &str =
     "(s (h) (a (a (c eq (fun (fun 'a 'a) (fun (fun 'a 'a) (bool)))) (c c (fun 'a 'a))) (l 'a (b 0))))";
-
-fn is_stated(alloc: Global, theorem: &Thm) -> Result<bool, AllocError> {
-    let statement = theorem.statement(alloc)?;
-    states(alloc, &statement, STATEMENT)
-}
 
 // A theorem on the first definition alone.
 fn is_first(theorem: &Thm) -> bool {
@@ -30,11 +21,7 @@ fn is_first(theorem: &Thm) -> bool {
 }
 
 fn is_equation(alloc: Global, theorem: &Thm) -> Result<bool, AllocError> {
-    Ok(
-        is_first(theorem)
-            && has_text(alloc, theorem.concl(), CONCLUSION)?
-            && is_stated(alloc, theorem)?,
-    )
+    Ok(is_first(theorem) && has_text(alloc, theorem, STATEMENT)?)
 }
 
 fn is_theorem(alloc: Global, defs: &mut Defs) -> Result<bool, AllocError> {
@@ -120,6 +107,13 @@ const REFUSALS: &[Refusal] = &[
         named: "c",
     },
 ];
+
+fn is_named(found: Option<&Name>, text: &str) -> bool {
+    match found {
+        Some(name) => name.as_slice() == text.as_bytes(),
+        None => text.is_empty(),
+    }
+}
 
 fn is_fault(fault: &DefFault, row: &Refusal) -> bool {
     kind_of(fault) == row.kind && is_named(name_in(fault), row.named)

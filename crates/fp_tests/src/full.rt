@@ -44,7 +44,7 @@ fn statement(alloc: Global, text: &str) -> Result<Statement, FullFault> {
     read_full(alloc, text.as_bytes())
 }
 
-pub fn states(alloc: Global, statement: &Statement, text: &str) -> Result<bool, AllocError> {
+fn states(alloc: Global, statement: &Statement, text: &str) -> Result<bool, AllocError> {
     Ok(print_full(alloc, statement)?.as_slice() == text.as_bytes())
 }
 

@@ -4,8 +4,6 @@
 #[cfg(test)]
 mod full;
 #[cfg(test)]
-mod kernel;
-#[cfg(test)]
 mod matching;
 #[cfg(test)]
 mod outside;

@@ -21,7 +21,7 @@ pub fn has_text(alloc: Global, term: &Term, text: &str) -> Result<bool, AllocErr
     Ok(print_full_term(alloc, term)?.as_slice() == text.as_bytes())
 }
 
-pub fn name(alloc: Global, text: &str) -> Result<Name, AllocError> {
+fn name(alloc: Global, text: &str) -> Result<Name, AllocError> {
     Name::new(alloc, text.as_bytes())?.ok_or(AllocError)
 }
 
@@ -207,7 +207,7 @@ fn replacements(rt: HostRuntime) {
     assert!(rt; is_replaced(rt.alloc()) == Ok(true));
 }
 
-pub fn is_named(found: Option<&Name>, text: &str) -> bool {
+fn is_named(found: Option<&Name>, text: &str) -> bool {
     match found {
         Some(name) => name.as_slice() == text.as_bytes(),
         None => text.is_empty(),
