@@ -3,3 +3,4 @@ pub mod Shapes
 pub mod Schemas
 pub mod Lemmas
 pub mod Quantified
+pub mod Existence

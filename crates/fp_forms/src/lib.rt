@@ -2,6 +2,7 @@
 #![tactic(auto)]
 
 mod choosers;
+pub mod existence;
 mod lemma;
 mod parts;
 mod quantifiers;

@@ -1,6 +1,6 @@
 //! The parts of terms of a known form.
 ghost use Rattle.std.specs.Prelude.{◌≡◌};
-ghost use Rattle.fp_forms.specs.Shapes.{function_in, argument_in};
+ghost use Rattle.fp_forms.specs.Shapes.{function_in, argument_in, body_in};
 
 use fp_term::{Node, Term};
 
@@ -19,6 +19,16 @@ pub fn argument_in(term: &Term) -> &Term
 {
     match term.node() {
         Node::App { arg, .. } => arg,
+        _ => term,
+    }
+}
+
+/// The body of an abstraction.
+pub fn body_in(term: &Term) -> &Term
+    ensures { result.now ≡ body_in term.now }
+{
+    match term.node() {
+        Node::Abs { body, .. } => body,
         _ => term,
     }
 }

@@ -15,7 +15,8 @@ use Rattle.fp_kernel.specs.Derivability.{IsFormula}
 use Rattle.fp_kernel.specs.Theorems.{Theorem, IsTheorem}
 use Rattle.fp_kernel.proofs.Growing.{from_start}
 use Rattle.fp_logic.proofs.Turning.{lifted}
-use Rattle.fp_quant.specs.Existence.{some_such, at_choice, IsPredicate, IsExistence}
+use Rattle.fp_forms.specs.Existence.{some_such, at_choice}
+use Rattle.fp_quant.specs.Existence.{IsPredicate, IsExistence}
 
 module _ (defs : List Def) (s : Typ) where
   -- what a quantifier is applied to

@@ -1,29 +1,22 @@
 -- Functions and what they are expanded to.
 use Rattle.std.proofs.Common.{◌≡◌, ◌∙◌, ℕ, ◌+◌, Bool, true, false, ◌&&◌, ◌||◌, List, [], ◌∷◌, refl, sym, ap, subst}
-use Rattle.std.specs.Prelude.{Some, None, codes}
+use Rattle.std.specs.Prelude.{Some, codes}
 use Rattle.std.specs.Str.{bytes_eq}
 use Rattle.std.proofs.lemmas.Option.{same_Some}
 use Rattle.std.proofs.lemmas.Bool.Decides.{Decides-and}
 use Rattle.std.proofs.lemmas.Slice.Eq.{bytes_eq-Decides}
-use Rattle.fp_term.specs.Names.{function}
 use Rattle.fp_term.specs.Types.{Typ, type_eq}
 use Rattle.fp_term.specs.Terms.{Tm, bound, free, constant, app, abs, closed, replaced}
 use Rattle.fp_term.specs.Typing.{type_under, function_type}
-use Rattle.fp_term.specs.Signatures.{IsType, IsWellTyped, unknown_in_type}
+use Rattle.fp_term.specs.Signatures.{IsType, IsWellTyped}
 use Rattle.fp_term.proofs.Equal.{type_eq-decides}
-use Rattle.fp_term.proofs.Known.{known_type}
-use Rattle.fp_term.proofs.Typed.{app_parts, typed_over}
+use Rattle.fp_term.proofs.Typed.{app_parts}
 use Rattle.fp_term.specs.declared.signature.Signature.{Signature}
 use Rattle.fp_conclude.specs.Logic.{equal}
-use Rattle.fp_conclude.specs.Hypotheses.{IsSet, occurs, occurs_in_any, all_replaced, all_retyped_terms}
-use Rattle.fp_conclude.specs.Outcomes.{gives}
-use Rattle.fp_conclude.specs.Rules.{inst_of, inst_ty_of}
-use Rattle.fp_conclude.proofs.Gives.{inst_gives, inst_ty_gives}
+use Rattle.fp_conclude.specs.Hypotheses.{IsSet, occurs, occurs_in_any}
 use Rattle.fp_kernel.specs.Definitions.{Def, Within, whole}
 use Rattle.fp_kernel.specs.Start.{signature_of}
-use Rattle.fp_conclude.specs.Axioms.{eta}
-use Rattle.fp_kernel.specs.Theorems.{Theorem, IsTheorem, ArePromises, stands, from_one}
-use Rattle.fp_kernel.proofs.Growing.{from_start}
+use Rattle.fp_kernel.specs.Theorems.{Theorem, IsTheorem, ArePromises}
 use Rattle.fp_logic.specs.Steps.{plain, by_one, by_both, CanChain, chained}
 use Rattle.fp_logic.proofs.Turning.{lifted_sides, alone_after}
 use Rattle.fp_quant.specs.Meanings.{expansion, eta_at, CanAbstract, abstractions}
@@ -61,45 +54,9 @@ module _ (name : List ℕ) (ty : Typ) where
   pub put_for : (t : Tm) → replaced ((name, ty, t) ∷ []) (free name ty) ≡ t
   put_for t = rw itself refl
 
--- the axiom at two types
-abbrev pub for_types : Typ → Typ → List (List ℕ × Typ)
-for_types from to = (codes "a", from) ∷ (codes "b", to) ∷ []
-
-abbrev pub eta_variable : Typ → Typ → Tm
-eta_variable from to = free (codes "t") (function_type from to)
-
-abbrev pub Schema : List Def → Typ → Typ → Theorem → Type 0
-Schema defs from to th =
-    from_one defs th (all_retyped_terms (for_types from to) th.hyps) (inst_ty_of (signature_of defs) (for_types from to) th.concl) ≡ gives (plain defs (eta_at from to (eta_variable from to)))
-
-schema_here : (defs : List Def) (from to : Typ) → IsType (signature_of defs) from → IsType (signature_of defs) to → Schema defs from to (plain defs eta)
-schema_here defs from to h k = ap (λ o. stands defs [] [] o) (inst_ty_gives (signature_of defs) (for_types from to) eta (h, (k, tt)))
-
-pub schema_gives : (defs : List Def) (from to : Typ) (th : Theorem) → IsType (signature_of defs) from → IsType (signature_of defs) to → th ≡ plain defs eta → Schema defs from to th
-schema_gives defs from to th h k e = subst (Schema defs from to) (sym e) (schema_here defs from to h k)
-
--- and at a function
-abbrev pub for_variable : Typ → Typ → Tm → List (List ℕ × Typ × Tm)
-for_variable from to f = (codes "t", function_type from to, f) ∷ []
-
-known_types : (defs : List Def) (s : Typ) (t : Tm) → IsWellTyped (signature_of defs) t s → unknown_in_type (signature_of defs) s ≡ None
-known_types defs s t h = known_type (signature_of defs) s (typed_over (signature_of defs) ((from_start defs).types function 2 refl) t s h.over h.typed)
-
-eta_put : (from to : Typ) (f : Tm) → replaced (for_variable from to f) (eta_at from to (eta_variable from to)) ≡ eta_at from to f
+-- the first axiom at a function
+pub eta_put : (from to : Typ) (f : Tm) → replaced ((codes "t", function_type from to, f) ∷ []) (eta_at from to (free (codes "t") (function_type from to))) ≡ eta_at from to f
 eta_put from to f = ap (eta_at from to) (put_for (codes "t") (function_type from to) f)
-
-abbrev pub Eta : List Def → Typ → Typ → Tm → Theorem → Type 0
-Eta defs from to f th = from_one defs th (all_replaced (for_variable from to f) th.hyps) (inst_of (signature_of defs) (for_variable from to f) th.concl) ≡ gives (plain defs (eta_at from to f))
-
-eta_here : (defs : List Def) (from to : Typ) (f : Tm) → IsWellTyped (signature_of defs) f (function_type from to) → Eta defs from to f (plain defs (eta_at from to (eta_variable from to)))
-eta_here defs from to f h =
-    let p = eta_at from to (eta_variable from to) in
-    subst (λ (x : Tm). from_one defs (plain defs p) [] (inst_of (signature_of defs) (for_variable from to f) p) ≡ gives (plain defs x)) (eta_put from to f)
-    (ap (λ o. stands defs [] [] o) (inst_gives (signature_of defs) (for_variable from to f) p (known_types defs) (h, tt)))
-
-pub eta_gives : (defs : List Def) (from to : Typ) (f : Tm) (th : Theorem) → IsWellTyped (signature_of defs) f (function_type from to) → th ≡ plain defs (eta_at from to (eta_variable from to)) →
-    Eta defs from to f th
-eta_gives defs from to f th h e = subst (Eta defs from to f) (sym e) (eta_here defs from to f h)
 
 -- the functions of a theorem `f x = g x`
 applied_typed : (g : Signature) (name : List ℕ) (s r : Typ) (f : Tm) → IsWellTyped g (app f (free name s)) r → IsWellTyped g f (function_type s r)

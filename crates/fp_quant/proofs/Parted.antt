@@ -19,7 +19,8 @@ use Rattle.fp_kernel.specs.Theorems.{Theorem, IsTheorem}
 use Rattle.fp_forms.specs.Shapes.{argument_in, body_in, IsAbstraction}
 use Rattle.fp_forms.specs.Quantified.{existence_parts}
 use Rattle.fp_quant.specs.Existential.{witness_type}
-use Rattle.fp_quant.specs.Existence.{some_such, IsExistence}
+use Rattle.fp_forms.specs.Existence.{some_such}
+use Rattle.fp_quant.specs.Existence.{IsExistence}
 use Rattle.fp_quant.proofs.Existing.{existence}
 use Rattle.fp_quant.proofs.Reached.{is_abstraction, neither}
 

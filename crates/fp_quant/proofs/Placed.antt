@@ -4,13 +4,13 @@ use Rattle.std.specs.Prelude.{None, Result, IfOk, codes}
 use Rattle.fp_term.specs.Names.{function}
 use Rattle.fp_term.specs.Types.{Typ, type_eq}
 use Rattle.fp_term.specs.Terms.{Tm, app, replaced, retyped_term}
-use Rattle.fp_term.specs.Signatures.{IsType, IsWellTyped, unknown_in_type}
+use Rattle.fp_term.specs.Signatures.{IsWellTyped, unknown_in_type}
 use Rattle.fp_term.proofs.Equal.{type_eq-decides}
 use Rattle.fp_term.proofs.Known.{known_type}
 use Rattle.fp_term.proofs.Typed.{typed_over}
 use Rattle.fp_conclude.specs.Logic.{truth_type, alpha, implication}
 use Rattle.fp_conclude.specs.Hypotheses.{all_replaced, all_retyped_terms}
-use Rattle.fp_conclude.specs.Checks.{AreTerms}
+use Rattle.fp_conclude.specs.Checks.{AreTerms, AreTypesOf}
 use Rattle.fp_conclude.specs.Outcomes.{gives}
 use Rattle.fp_conclude.specs.Rules.{inst_of, inst_ty_of}
 use Rattle.fp_conclude.proofs.Gives.{inst_gives, inst_ty_gives}
@@ -20,7 +20,9 @@ use Rattle.fp_kernel.specs.Theorems.{Theorem, stands, from_one}
 use Rattle.fp_kernel.proofs.Growing.{from_start}
 use Rattle.fp_forms.specs.Schemas.{q_variable}
 use Rattle.fp_logic.specs.Steps.{plain}
-use Rattle.fp_quant.specs.Existence.{predicate_variable, holds, some_such, reaches, each_chosen, for_alpha, placed}
+use Rattle.fp_forms.specs.Existence.{predicate_variable, holds, some_such, reaches, each_chosen}
+use Rattle.fp_quant.specs.Meanings.{for_alpha}
+use Rattle.fp_quant.specs.Existence.{placed}
 
 abbrev Pairs : Type 0
 Pairs = List (List ℕ × Typ × Tm)
@@ -28,15 +30,15 @@ Pairs = List (List ℕ × Typ × Tm)
 pub plain_within : (defs : List Def) (th : Theorem) → th ≡ plain defs th.concl → Within th.defs defs
 plain_within defs th e = subst (λ (x : Theorem). Within x.defs defs) (sym e) whole
 
--- by a type for `'a`
-abbrev pub Retyping : List Def → Theorem → Typ → Type 0
-Retyping defs th s = from_one defs th (all_retyped_terms (for_alpha s) th.hyps) (inst_ty_of (signature_of defs) (for_alpha s) th.concl) ≡ gives (plain defs (retyped_term (for_alpha s) th.concl))
+-- by types for type variables
+abbrev pub Retyping : List Def → Theorem → List (List ℕ × Typ) → Type 0
+Retyping defs th pairs = from_one defs th (all_retyped_terms pairs th.hyps) (inst_ty_of (signature_of defs) pairs th.concl) ≡ gives (plain defs (retyped_term pairs th.concl))
 
-retyping_of : (defs : List Def) (p : Tm) (s : Typ) → IsType (signature_of defs) s → Retyping defs (plain defs p) s
-retyping_of defs p s h = ap (λ o. stands defs [] [] o) (inst_ty_gives (signature_of defs) (for_alpha s) p (h, tt))
+retyping_of : (defs : List Def) (p : Tm) (pairs : List (List ℕ × Typ)) → AreTypesOf (signature_of defs) pairs → Retyping defs (plain defs p) pairs
+retyping_of defs p pairs h = ap (λ o. stands defs [] [] o) (inst_ty_gives (signature_of defs) pairs p h)
 
-pub retyping_gives : (defs : List Def) (th : Theorem) (s : Typ) → th ≡ plain th.defs th.concl → IsType (signature_of defs) s → Retyping defs th s
-retyping_gives defs th s e h = subst (λ (x : Theorem). Retyping defs x s) (sym e) (retyping_of defs th.concl s h)
+pub retyping_gives : (defs : List Def) (th : Theorem) (pairs : List (List ℕ × Typ)) → th ≡ plain th.defs th.concl → AreTypesOf (signature_of defs) pairs → Retyping defs th pairs
+retyping_gives defs th pairs e h = subst (λ (x : Theorem). Retyping defs x pairs) (sym e) (retyping_of defs th.concl pairs h)
 
 -- by terms for variables
 known_types : (defs : List Def) (s : Typ) (t : Tm) → IsWellTyped (signature_of defs) t s → unknown_in_type (signature_of defs) s ≡ None

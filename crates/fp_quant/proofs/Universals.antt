@@ -1,19 +1,17 @@
 -- The definition of `all` at a type, and the steps from it.
-use Rattle.std.proofs.Common.{◌≡◌, ℕ, false, List, [], ◌∷◌, refl, sym, ap, subst}
-use Rattle.std.specs.Prelude.{codes}
+use Rattle.std.proofs.Common.{◌≡◌, ℕ, false, List, refl, sym, ap, subst}
 use Rattle.fp_term.specs.Types.{Typ}
 use Rattle.fp_term.specs.Terms.{Tm}
 use Rattle.fp_term.specs.Signatures.{IsType, IsWellTyped}
 use Rattle.fp_conclude.specs.Logic.{predicate_type, equal}
-use Rattle.fp_conclude.specs.Hypotheses.{all_retyped_terms, occurs_in_any}
+use Rattle.fp_conclude.specs.Hypotheses.{occurs_in_any}
 use Rattle.fp_conclude.specs.Outcomes.{gives}
-use Rattle.fp_conclude.specs.Rules.{lam_of, inst_ty_of}
-use Rattle.fp_conclude.proofs.Gives.{lam_gives, inst_ty_gives}
+use Rattle.fp_conclude.specs.Rules.{lam_of}
+use Rattle.fp_conclude.proofs.Gives.{lam_gives}
 use Rattle.fp_kernel.specs.Definitions.{Def, Within, whole}
 use Rattle.fp_kernel.specs.Start.{signature_of}
-use Rattle.fp_conclude.specs.Axioms.{connective_numbered}
 use Rattle.fp_kernel.specs.Derivability.{IsFormula}
-use Rattle.fp_kernel.specs.Theorems.{Theorem, IsTheorem, stands, from_one}
+use Rattle.fp_kernel.specs.Theorems.{Theorem, IsTheorem, from_one}
 use Rattle.fp_forms.specs.Shapes.{side_type, left, right, IsEquation}
 use Rattle.fp_logic.specs.Steps.{plain, by_one, CanUnfold}
 use Rattle.fp_logic.proofs.Turning.{lifted, lifted_sides}
@@ -32,18 +30,6 @@ pub abstracted_gives : (defs : List Def) (name : List ℕ) (ty : Typ) (a : Theor
 abstracted_gives defs name ty a h = ap (λ o. from_one defs a a.hyps o) (lam_as defs name ty a.hyps a.concl h.3 h.1 h.2)
 
 -- `all` at a type
-abbrev pub for_type : Typ → List (List ℕ × Typ)
-for_type s = (codes "a", s) ∷ []
-
-abbrev pub Universal : List Def → Typ → Theorem → Type 0
-Universal defs s th = from_one defs th (all_retyped_terms (for_type s) th.hyps) (inst_ty_of (signature_of defs) (for_type s) th.concl) ≡ gives (plain defs (universal_at s))
-
-universal_here : (defs : List Def) (s : Typ) → IsType (signature_of defs) s → Universal defs s (plain defs (connective_numbered 4))
-universal_here defs s h = ap (λ o. stands defs [] [] o) (inst_ty_gives (signature_of defs) (for_type s) (connective_numbered 4) (h, tt))
-
-pub universal_gives : (defs : List Def) (s : Typ) (th : Theorem) → IsType (signature_of defs) s → th ≡ plain defs (connective_numbered 4) → Universal defs s th
-universal_gives defs s th h e = subst (Universal defs s) (sym e) (universal_here defs s h)
-
 pub universal_asks : (defs : List Def) (s : Typ) (p : Tm) → CanUnfold defs (plain defs (universal_at s)) (plain defs (equal (predicate_type s) p p))
 universal_asks defs s p = ((whole, whole, refl, refl), refl)
 

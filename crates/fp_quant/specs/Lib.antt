@@ -2,5 +2,4 @@ pub mod Universal
 pub mod Meanings
 pub mod Existential
 pub mod Existence
-pub mod Kept
 pub mod Extensional

@@ -1,5 +1,5 @@
 -- What quantified formulas say, and what rules give on premises of a known form.
-use Rattle.std.specs.Prelude.{◌≡◌, ℕ, false, List, codes}
+use Rattle.std.specs.Prelude.{◌≡◌, ℕ, false, List, [], ◌∷◌, codes}
 use Rattle.fp_term.specs.Types.{Typ}
 use Rattle.fp_term.specs.Terms.{Tm, bound, app, abs, closed}
 use Rattle.fp_term.specs.Typing.{function_type}
@@ -10,6 +10,13 @@ use Rattle.fp_kernel.specs.Definitions.{Def, Within}
 use Rattle.fp_kernel.specs.Start.{signature_of}
 use Rattle.fp_kernel.specs.Theorems.{Theorem}
 use Rattle.fp_forms.specs.Shapes.{side_type, left, right, IsEquation}
+
+-- types for the type variables `'a` and `'b`
+abbrev pub for_alpha : Typ → List (List ℕ × Typ)
+for_alpha s = (codes "a", s) ∷ []
+
+abbrev pub for_both : Typ → Typ → List (List ℕ × Typ)
+for_both s r = (codes "a", s) ∷ (codes "b", r) ∷ []
 
 -- `P = (%x. T)`, for a predicate on the type
 abbrev pub always : Typ → Tm → Tm

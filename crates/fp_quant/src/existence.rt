@@ -1,80 +1,26 @@
-//! What `?` says, for variables: `P x --> ex P`, `ex P --> (!x. P x --> q) --> q` and `!x. P x --> P (select P)`.
+//! What is derived of `?`, for variables: `P x --> ex P`, `ex P --> (!x. P x --> q) --> q` and `!x. P x --> P (select P)`.
 //! Primitive steps: `introduction` 90, `elimination` 41, `choice` 16.
 ghost use Rattle.std.specs.Prelude.{◌≡◌, IfOk};
-ghost use Rattle.fp_term.specs.Terms.{bound, app};
 ghost use Rattle.fp_conclude.specs.Logic.{truth_type, alpha, equal, implication};
 ghost use Rattle.fp_conclude.specs.Axioms.{selection};
 ghost use Rattle.fp_forms.specs.Schemas.{q_variable};
-ghost use Rattle.fp_forms.specs.Shapes.{body_in};
 ghost use Rattle.fp_logic.specs.Steps.{plain, from_itself, by_one, by_both};
-ghost use Rattle.fp_quant.specs.Existence.{predicate_variable, element_variable, holds, some_such, each_implies, reaches, reaches_all, each_chosen};
+ghost use Rattle.fp_forms.specs.Existence.{predicate_variable, element_variable, holds, some_such, each_implies, reaches, reaches_all, each_chosen};
 
 use crate::universal::{generalized, specialized};
-use fp_conclude::{alpha, apply, for_all, implication, predicate_over, quantifier, truth_type};
+use fp_conclude::{alpha, truth_type};
+use fp_forms::existence::{
+    each_implies, element_variable, held, implied_body, predicate_variable, some,
+};
 use fp_forms::q_variable;
-use fp_forms::shapes::argument_in;
+use fp_forms::shapes::{argument_in, body_in};
 use fp_kernel::{Defs, Thm};
 use fp_logic::equations::unfold;
 use fp_logic::holding::{convert, fold};
 use fp_logic::implications::{discharged, modus};
 use fp_logic::steps::{assumed, definition, given, own};
-use fp_term::{Name, Node, Term};
+use fp_term::{Name, Term};
 use std::alloc::{AllocError, Global};
-
-/// `P`, the variable for a predicate on `'a`.
-#[tactic(auto, unfolding(fp_term::specs::Names::is_name))]
-pub(crate) fn predicate_variable(alloc: Global) -> Result<Term, AllocError>
-    ensures { IfOk result (λ t. t ≡ predicate_variable) }
-{
-    let ty = predicate_over(alloc, &alpha(alloc)?)?;
-    Term::free(alloc, Name::of(alloc, b"P")?, ty)
-}
-
-// `x`, the variable of the type `'a`.
-#[tactic(auto, unfolding(fp_term::specs::Names::is_name))]
-fn element_variable(alloc: Global) -> Result<Term, AllocError>
-    ensures { IfOk result (λ t. t ≡ element_variable) }
-{
-    Term::free(alloc, Name::of(alloc, b"x")?, alpha(alloc)?)
-}
-
-/// `P x`
-pub(crate) fn held(alloc: Global) -> Result<Term, AllocError>
-    ensures { IfOk result (λ t. t ≡ holds) }
-{
-    let predicate = predicate_variable(alloc)?;
-    let element = element_variable(alloc)?;
-    apply(alloc, &predicate, &element)
-}
-
-// `P x --> q`, with the number 0 for `x`.
-fn implied_body(alloc: Global) -> Result<Term, AllocError>
-    ensures { IfOk result (λ t. t ≡ implication (app predicate_variable (bound 0)) q_variable) }
-{
-    let predicate = predicate_variable(alloc)?;
-    let applied = Term::app(alloc, predicate, Term::bound(alloc, 0)?)?;
-    let variable = q_variable(alloc)?;
-    implication(alloc, &applied, &variable)
-}
-
-/// `!x. P x --> q`
-pub(crate) fn each_implies(alloc: Global) -> Result<Term, AllocError>
-    ensures { IfOk result (λ t. t ≡ each_implies alpha predicate_variable q_variable) }
-{
-    let ty = alpha(alloc)?;
-    let body = implied_body(alloc)?;
-    for_all(alloc, &ty, &body)
-}
-
-/// `ex P`
-#[tactic(auto, unfolding(fp_term::specs::Names::is_name))]
-pub(crate) fn some(alloc: Global) -> Result<Term, AllocError>
-    ensures { IfOk result (λ t. t ≡ some_such alpha predicate_variable) }
-{
-    let ex = quantifier(alloc, b"ex", &alpha(alloc)?)?;
-    let predicate = predicate_variable(alloc)?;
-    apply(alloc, &ex, &predicate)
-}
 
 // `ex P = (!q. (!x. P x --> q) --> q)`
 fn meaning(alloc: Global, defs: &Defs) -> Result<Thm, AllocError>
@@ -167,16 +113,6 @@ fn opened(alloc: Global, defs: &Defs, some: &Term) -> Result<Thm, AllocError>
     let meaning = meaning(alloc, defs)?;
     let itself = assumed(alloc, defs, some)?;
     convert(alloc, defs, &meaning, &itself)
-}
-
-// The body of an abstraction.
-fn body_in(term: &Term) -> &Term
-    ensures { result.now ≡ body_in term.now }
-{
-    match term.node() {
-        Node::Abs { body, .. } => body,
-        _ => term,
-    }
 }
 
 // `(!x. P x --> q) --> q` from `ex P` itself.

@@ -13,6 +13,7 @@ ghost use Rattle.fp_forms.specs.Quantified.{existence_parts};
 ghost use Rattle.fp_quant.specs.Existential.{witness_type, witnessed, exists_of, chosen_by, choose_from, select_of};
 
 use crate::fault::{free_in_hyps, unknown_name};
+use crate::steps::variable;
 use crate::witness::{chosen, eliminated, witnessed};
 use fp_conclude::{RuleFault, differ, occurs, occurs_in_any, without};
 use fp_forms::existence_parts;
@@ -109,7 +110,7 @@ pub fn exists(
 fn held_by(alloc: Global, name: &Name, ty: &Ty, body: &Term) -> Result<Term, AllocError>
     ensures { IfOk result (λ t. t ≡ opened 0 (free name.now ty.now) body.now) }
 {
-    let variable = Term::free(alloc, name.copy()?, ty.copy()?)?;
+    let variable = variable(alloc, name, ty)?;
     open_with(alloc, body, &variable)
 }
 

@@ -16,12 +16,12 @@ ghost use Rattle.fp_quant.specs.Meanings.{eta_at};
 ghost use Rattle.fp_quant.specs.Universal.{applied_to_variable, same_functions, same_values, ext_of};
 
 use crate::fault::{free_in_hyps, unknown_name};
-use crate::steps::{abstracted, extension, for_alpha, for_beta};
+use crate::steps::{abstracted, extension, replaced, retyped_at_both, variable};
 use fp_conclude::{Equation, RuleFault, occurs, occurs_in_any, sides};
 use fp_forms::shapes::left;
 use fp_kernel::{Defs, Thm};
 use fp_logic::equations::swap;
-use fp_logic::steps::{chain, given};
+use fp_logic::steps::chain;
 use fp_term::{Name, Node, Term, Ty, function_of, same};
 use std::alloc::{AllocError, Global};
 
@@ -32,9 +32,7 @@ fn eta_schema(alloc: Global, defs: &Defs, from: &Ty, to: &Ty) -> Result<Thm, All
     ensures { IfOk result (λ th. th ≡ plain defs.now (eta_at from.now to.now (free (codes "t") (function_type from.now to.now)))) }
 {
     let axiom = extension(alloc, defs)?;
-    let first = for_alpha(alloc, from)?;
-    let pairs = [first, for_beta(alloc, to)?];
-    given(defs.inst_ty(alloc, &axiom, &pairs))
+    retyped_at_both(alloc, defs, &axiom, from, to)
 }
 
 // The type of functions from the one type to the other.
@@ -60,7 +58,7 @@ fn eta(alloc: Global, defs: &Defs, from: &Ty, to: &Ty, function: &Term) -> Resul
 {
     let schema = eta_schema(alloc, defs, from, to)?;
     let pairs = [for_t(alloc, from, to, function)?];
-    given(defs.inst(alloc, &schema, &pairs))
+    replaced(alloc, defs, &schema, &pairs)
 }
 
 // Two functions, from which type and to which.
@@ -150,7 +148,7 @@ fn applied_to_variable<'a>(
     let Node::App { fun, arg } = term.node() else {
         return Ok(None);
     };
-    let variable = Term::free(alloc, name.copy()?, ty.copy()?)?;
+    let variable = variable(alloc, name, ty)?;
     if same(arg, &variable) {
         Ok(Some(fun))
     } else {

@@ -5,39 +5,28 @@ ghost use Rattle.fp_term.specs.Terms.{app, replaced, retyped_term};
 ghost use Rattle.fp_term.specs.Signatures.{IsType, IsWellTyped};
 ghost use Rattle.fp_conclude.specs.Logic.{truth_type, predicate_type, implication};
 ghost use Rattle.fp_conclude.specs.Checks.{AreTerms};
-ghost use Rattle.fp_kernel.specs.Definitions.{Within};
 ghost use Rattle.fp_kernel.specs.Derivability.{IsFormula};
 ghost use Rattle.fp_kernel.specs.Start.{signature_of};
 ghost use Rattle.fp_logic.specs.Steps.{plain};
-ghost use Rattle.fp_quant.specs.Kept.{statement_of};
-ghost use Rattle.fp_quant.specs.Existence.{some_such, reaches, each_chosen, for_alpha, placed, IsPredicate};
+ghost use Rattle.fp_forms.specs.Existence.{some_such, reaches, each_chosen, statement_of};
+ghost use Rattle.fp_quant.specs.Existence.{placed, IsPredicate};
+ghost use Rattle.fp_quant.specs.Meanings.{for_alpha};
 
-use crate::kept::{Schema, recalled};
-use crate::steps::for_alpha;
+use crate::kept::recalled;
+use crate::steps::{replaced, retyped_at};
 use fp_conclude::{predicate_over, truth_type};
+use fp_forms::existence::ExistenceSchema;
 use fp_kernel::{Defs, Thm};
-use fp_logic::steps::given;
 use fp_term::{Name, Term, Ty};
 use std::alloc::{AllocError, Global};
 
-// The instance by a type for `'a` of a theorem over some of the definitions.
-fn retyped(alloc: Global, defs: &Defs, th: &Thm, ty: &Ty) -> Result<Thm, AllocError>
-    requires whole { th.now ≡ plain th.now.defs th.now.concl }
-    requires within { Within th.now.defs defs.now }
-    requires known { IsType (signature_of defs.now) ty.now }
-    ensures { IfOk result (λ i. i ≡ plain defs.now (retyped_term (for_alpha ty.now) th.now.concl)) }
-{
-    let pairs = [for_alpha(alloc, ty)?];
-    given(defs.inst_ty(alloc, th, &pairs))
-}
-
 // What is derived for variables, over the definitions and with a type for `'a`.
-fn typed(alloc: Global, defs: &Defs, schema: Schema, ty: &Ty) -> Result<Thm, AllocError>
+fn typed(alloc: Global, defs: &Defs, schema: ExistenceSchema, ty: &Ty) -> Result<Thm, AllocError>
     requires { IsType (signature_of defs.now) ty.now }
     ensures { IfOk result (λ th. th ≡ plain defs.now (retyped_term (for_alpha ty.now) (statement_of schema))) }
 {
     let general = recalled(alloc, defs, schema)?;
-    retyped(alloc, defs, &general, ty)
+    retyped_at(alloc, defs, &general, ty)
 }
 
 // A term for the variable of that name and type.
@@ -80,7 +69,7 @@ fn with_terms(
     ensures { IfOk result (λ i. i ≡ plain defs.now (replaced (placed ty.now predicate.now other.0 other.1 other.2) th.now.concl)) }
 {
     let pairs = [for_predicate(alloc, ty, predicate)?, other];
-    given(defs.inst(alloc, th, &pairs))
+    replaced(alloc, defs, th, &pairs)
 }
 
 /// `P t --> ex P`
@@ -96,7 +85,7 @@ pub(crate) fn introduction_at(
     requires typed { IsWellTyped (signature_of defs.now) term.now ty.now }
     ensures { IfOk result (λ th. th ≡ plain defs.now (implication (app predicate.now term.now) (some_such ty.now predicate.now))) }
 {
-    let typed = typed(alloc, defs, Schema::Introduction, ty)?;
+    let typed = typed(alloc, defs, ExistenceSchema::Introduction, ty)?;
     let other = pair(alloc, b"x", ty, term)?;
     with_terms(alloc, defs, &typed, ty, predicate, other)
 }
@@ -113,7 +102,7 @@ pub(crate) fn elimination_at(
     requires formula { IsFormula (signature_of defs.now) formula.now }
     ensures { IfOk result (λ th. th ≡ plain defs.now (implication (some_such ty.now predicate.now) (reaches ty.now predicate.now formula.now))) }
 {
-    let typed = typed(alloc, defs, Schema::Elimination, ty)?;
+    let typed = typed(alloc, defs, ExistenceSchema::Elimination, ty)?;
     let other = for_formula(alloc, formula)?;
     with_terms(alloc, defs, &typed, ty, predicate, other)
 }
@@ -128,7 +117,7 @@ pub(crate) fn choice_at(
     requires { IsPredicate defs.now ty.now predicate.now }
     ensures { IfOk result (λ th. th ≡ plain defs.now (each_chosen ty.now predicate.now)) }
 {
-    let typed = typed(alloc, defs, Schema::Choice, ty)?;
+    let typed = typed(alloc, defs, ExistenceSchema::Choice, ty)?;
     let other = for_predicate(alloc, ty, predicate)?;
     with_terms(alloc, defs, &typed, ty, predicate, other)
 }

@@ -10,13 +10,13 @@ ghost use Rattle.fp_kernel.specs.Start.{signature_of};
 ghost use Rattle.fp_logic.specs.Steps.{plain, by_one};
 ghost use Rattle.fp_quant.specs.Meanings.{always, universal_at};
 
-use crate::steps::{abstracted, for_alpha};
+use crate::steps::{abstracted, retyped_at};
 use fp_conclude::abstraction;
 use fp_forms::shapes::left;
 use fp_kernel::{Defs, Thm};
 use fp_logic::equations::unfold;
 use fp_logic::holding::{convert, fold};
-use fp_logic::steps::{definition, given, own, reduced};
+use fp_logic::steps::{definition, own, reduced};
 use fp_logic::truths::{true_equation, untrue};
 use fp_term::{Name, Term, Ty};
 use std::alloc::{AllocError, Global};
@@ -27,8 +27,7 @@ fn universal_schema(alloc: Global, defs: &Defs, ty: &Ty) -> Result<Thm, AllocErr
     ensures { IfOk result (λ th. th ≡ plain defs.now (universal_at ty.now)) }
 {
     let meaning = definition(alloc, defs, 4)?;
-    let pairs = [for_alpha(alloc, ty)?];
-    given(defs.inst_ty(alloc, &meaning, &pairs))
+    retyped_at(alloc, defs, &meaning, ty)
 }
 
 /// `all P = (P = (%x. T))`, for a predicate on the type.

@@ -11,11 +11,14 @@ ghost use Rattle.fp_kernel.specs.Start.{signature_of};
 ghost use Rattle.fp_forms.specs.Shapes.{left, right, body_in, IsAbstraction};
 ghost use Rattle.fp_logic.specs.Steps.{plain, by_one, by_both, without_one};
 ghost use Rattle.fp_quant.specs.Existential.{choice_made};
-ghost use Rattle.fp_quant.specs.Existence.{reaches, each_implies, at_choice, IsPredicate, IsExistence};
+ghost use Rattle.fp_forms.specs.Existence.{reaches, each_implies, at_choice};
+ghost use Rattle.fp_quant.specs.Existence.{IsPredicate, IsExistence};
 
 use crate::placing::{choice_at, elimination_at, introduction_at};
+use crate::steps::variable;
 use crate::universal::generalized;
-use fp_conclude::{abstraction, apply, connective, select};
+use fp_conclude::{abstraction, apply, connective};
+use fp_forms::existence::at_choice;
 use fp_forms::shapes;
 use fp_kernel::{Defs, Thm};
 use fp_logic::holding::{convert, fold};
@@ -111,14 +114,6 @@ fn reaching(
     by_rule(alloc, defs, &rule, a)
 }
 
-// `P (select P)`
-fn at_choice(alloc: Global, ty: &Ty, predicate: &Term) -> Result<Term, AllocError>
-    ensures { IfOk result (λ t. t ≡ at_choice ty.now predicate.now) }
-{
-    let chosen = select(alloc, ty, predicate)?;
-    apply(alloc, predicate, &chosen)
-}
-
 // `P (select P)` from `ex P`.
 fn held_at_choice(
     alloc: Global,
@@ -188,12 +183,6 @@ fn implied(alloc: Global, defs: &Defs, equation: &Thm, b: &Thm) -> Result<Thm, A
     let discharged = discharged(alloc, defs, shapes::right(equation.concl()), b)?;
     let turned = with_conclusion(alloc, defs, equation, b.concl())?;
     fold(alloc, defs, &turned, &discharged)
-}
-
-fn variable(alloc: Global, name: &Name, ty: &Ty) -> Result<Term, AllocError>
-    ensures { IfOk result (λ t. t ≡ free name.now ty.now) }
-{
-    Term::free(alloc, name.copy()?, ty.copy()?)
 }
 
 // `!x. P x --> q` from `q`, without the hypothesis that is `P x` reduced.

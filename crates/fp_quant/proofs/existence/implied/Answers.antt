@@ -2,7 +2,7 @@ use Rattle.std.proofs.Common.{refl}
 use Rattle.fp_conclude.specs.Logic.{alpha}
 use Rattle.fp_kernel.specs.Definitions.{whole}
 use Rattle.fp_logic.proofs.Concrete.{at_start}
-use Rattle.fp_quant.specs.Existence.{element_variable}
+use Rattle.fp_forms.specs.Existence.{element_variable}
 use Rattle.fp_quant.proofs.existence.implied.Goals as goal
 
 pub specialized-requires-clause-within : goal.specialized-requires-clause-within

@@ -2,7 +2,7 @@ use Rattle.std.proofs.Common.{refl}
 use Rattle.fp_conclude.specs.Logic.{truth_type}
 use Rattle.fp_kernel.specs.Definitions.{whole}
 use Rattle.fp_logic.proofs.Concrete.{at_start}
-use Rattle.fp_quant.specs.Existence.{holds}
+use Rattle.fp_forms.specs.Existence.{holds}
 use Rattle.fp_quant.proofs.existence.introduction.Goals as goal
 
 pub some_from-requires : goal.some_from-requires

@@ -2,7 +2,7 @@ use Rattle.std.proofs.Common.{refl}
 use Rattle.fp_conclude.specs.Logic.{alpha, predicate_type}
 use Rattle.fp_kernel.specs.Definitions.{whole}
 use Rattle.fp_logic.proofs.Concrete.{at_start}
-use Rattle.fp_quant.specs.Existence.{predicate_variable}
+use Rattle.fp_forms.specs.Existence.{predicate_variable}
 use Rattle.fp_quant.proofs.existence.meaning.Goals as goal
 
 pub own-requires : goal.own-requires

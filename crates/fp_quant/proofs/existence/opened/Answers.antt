@@ -2,7 +2,7 @@ use Rattle.std.proofs.Common.{refl}
 use Rattle.fp_conclude.specs.Logic.{truth_type, alpha}
 use Rattle.fp_kernel.specs.Definitions.{whole}
 use Rattle.fp_logic.proofs.Concrete.{at_start}
-use Rattle.fp_quant.specs.Existence.{predicate_variable, some_such}
+use Rattle.fp_forms.specs.Existence.{predicate_variable, some_such}
 use Rattle.fp_quant.proofs.existence.opened.Goals as goal
 
 pub assumed-requires : goal.assumed-requires

@@ -3,7 +3,7 @@ use Rattle.fp_conclude.specs.Logic.{truth_type}
 use Rattle.fp_kernel.specs.Definitions.{whole}
 use Rattle.fp_forms.specs.Schemas.{q_variable}
 use Rattle.fp_logic.proofs.Concrete.{at_start}
-use Rattle.fp_quant.specs.Existence.{holds}
+use Rattle.fp_forms.specs.Existence.{holds}
 use Rattle.fp_quant.proofs.existence.reached.Goals as goal
 
 pub implied_by-requires : goal.implied_by-requires

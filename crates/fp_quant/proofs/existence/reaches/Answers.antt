@@ -3,7 +3,7 @@ use Rattle.fp_conclude.specs.Logic.{truth_type, alpha}
 use Rattle.fp_kernel.specs.Definitions.{whole}
 use Rattle.fp_forms.specs.Schemas.{q_variable}
 use Rattle.fp_logic.proofs.Concrete.{at_start}
-use Rattle.fp_quant.specs.Existence.{predicate_variable, each_implies}
+use Rattle.fp_forms.specs.Existence.{predicate_variable, each_implies}
 use Rattle.fp_quant.proofs.existence.reaches.Goals as goal
 
 pub reached-requires-clause-each : goal.reached-requires-clause-each

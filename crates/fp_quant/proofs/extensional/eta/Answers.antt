@@ -1,12 +1,6 @@
-use Rattle.fp_conclude.specs.Hypotheses.{all_replaced}
-use Rattle.fp_conclude.specs.Rules.{inst_of}
-use Rattle.fp_kernel.specs.Definitions.{whole}
-use Rattle.fp_kernel.specs.Start.{signature_of}
-use Rattle.fp_kernel.specs.Theorems.{from_one}
-use Rattle.fp_logic.specs.Steps.{plain}
-use Rattle.fp_logic.proofs.Given.{no_refusal, given_is}
-use Rattle.fp_quant.specs.Meanings.{eta_at}
-use Rattle.fp_quant.proofs.Functions.{for_variable, eta_gives}
+use Rattle.std.proofs.Common.{refl}
+use Rattle.fp_quant.proofs.Functions.{eta_put}
+use Rattle.fp_quant.proofs.Placed.{plain_is}
 use Rattle.fp_quant.proofs.Subjects.{from_known, to_known}
 use Rattle.fp_quant.proofs.extensional.eta.Goals as goal
 
@@ -16,11 +10,12 @@ eta_schema-requires-clause-first c = from_known c.args.defs.now c.args.from.now 
 pub eta_schema-requires-clause-second : goal.eta_schema-requires-clause-second
 eta_schema-requires-clause-second c = to_known c.args.defs.now c.args.from.now c.args.to.now c.args.function.now c.requires
 
-pub inst-requires : goal.inst-requires
-inst-requires c = rw c.in_ok-schema.ensures whole
+pub replaced-requires-clause-whole : goal.replaced-requires-clause-whole
+replaced-requires-clause-whole c = rw c.in_ok-schema.ensures refl
 
-pub given-requires : goal.given-requires
-given-requires c = no_refusal c.inst.result (from_one c.args.defs.now c.in_ok-schema.schema (all_replaced (for_variable c.args.from.now c.args.to.now c.args.function.now) c.in_ok-schema.schema.hyps) (inst_of (signature_of c.args.defs.now) (for_variable c.args.from.now c.args.to.now c.args.function.now) c.in_ok-schema.schema.concl)) (plain c.args.defs.now (eta_at c.args.from.now c.args.to.now c.args.function.now)) (rw c.in_ok-for_t.ensures at c.inst.ensures) (eta_gives c.args.defs.now c.args.from.now c.args.to.now c.args.function.now c.in_ok-schema.schema c.requires c.in_ok-schema.ensures)
+pub replaced-requires-clause-typed : goal.replaced-requires-clause-typed
+replaced-requires-clause-typed c = rw c.in_ok-for_t.ensures (c.requires, tt)
 
 pub returns : goal.returns
-returns c = given_is c.inst.result c.given.result (from_one c.args.defs.now c.in_ok-schema.schema (all_replaced (for_variable c.args.from.now c.args.to.now c.args.function.now) c.in_ok-schema.schema.hyps) (inst_of (signature_of c.args.defs.now) (for_variable c.args.from.now c.args.to.now c.args.function.now) c.in_ok-schema.schema.concl)) (plain c.args.defs.now (eta_at c.args.from.now c.args.to.now c.args.function.now)) (rw c.in_ok-for_t.ensures at c.inst.ensures) (eta_gives c.args.defs.now c.args.from.now c.args.to.now c.args.function.now c.in_ok-schema.schema c.requires c.in_ok-schema.ensures) c.given.ensures
+returns c =
+    plain_is c.replaced.result c.args.defs.now _ _ (eta_put c.args.from.now c.args.to.now c.args.function.now) (rw (c.in_ok-schema.ensures, c.in_ok-for_t.ensures) at c.replaced.ensures)

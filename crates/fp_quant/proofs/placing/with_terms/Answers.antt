@@ -1,27 +1,7 @@
-use Rattle.fp_term.specs.Terms.{replaced}
-use Rattle.fp_conclude.specs.Hypotheses.{all_replaced}
-use Rattle.fp_conclude.specs.Rules.{inst_of}
-use Rattle.fp_kernel.specs.Start.{signature_of}
-use Rattle.fp_kernel.specs.Theorems.{from_one}
-use Rattle.fp_logic.specs.Steps.{plain}
-use Rattle.fp_logic.proofs.Given.{no_refusal, given_is}
-use Rattle.fp_quant.specs.Existence.{placed}
-use Rattle.fp_quant.proofs.Placed.{plain_within, placing_gives}
 use Rattle.fp_quant.proofs.placing.with_terms.Goals as goal
 
-pub inst-requires : goal.inst-requires
-inst-requires c = plain_within c.args.defs.now c.args.th.now c.requires.whole
-
-pub given-requires : goal.given-requires
-given-requires c =
-    let pairs = placed c.args.ty.now c.args.predicate.now c.args.other.0 c.args.other.1 c.args.other.2 in
-    no_refusal c.inst.result (from_one c.args.defs.now c.args.th.now (all_replaced pairs c.args.th.now.hyps) (inst_of (signature_of c.args.defs.now) pairs c.args.th.now.concl))
-    (plain c.args.defs.now (replaced pairs c.args.th.now.concl))
-    (rw c.in_ok-for_predicate.ensures at c.inst.ensures) (placing_gives c.args.defs.now c.args.th.now pairs c.requires.whole c.requires.typed)
+pub replaced-requires-clause-typed : goal.replaced-requires-clause-typed
+replaced-requires-clause-typed c = rw c.in_ok-for_predicate.ensures c.requires.typed
 
 pub returns : goal.returns
-returns c =
-    let pairs = placed c.args.ty.now c.args.predicate.now c.args.other.0 c.args.other.1 c.args.other.2 in
-    given_is c.inst.result c.given.result (from_one c.args.defs.now c.args.th.now (all_replaced pairs c.args.th.now.hyps) (inst_of (signature_of c.args.defs.now) pairs c.args.th.now.concl))
-    (plain c.args.defs.now (replaced pairs c.args.th.now.concl))
-    (rw c.in_ok-for_predicate.ensures at c.inst.ensures) (placing_gives c.args.defs.now c.args.th.now pairs c.requires.whole c.requires.typed) c.given.ensures
+returns c = rw c.in_ok-for_predicate.ensures at c.replaced.ensures

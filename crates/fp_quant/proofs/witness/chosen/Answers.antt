@@ -4,7 +4,7 @@ use Rattle.fp_conclude.specs.Logic.{truth_type, select}
 use Rattle.fp_kernel.specs.Definitions.{whole}
 use Rattle.fp_kernel.specs.Theorems.{Theorem}
 use Rattle.fp_logic.proofs.Given.{Reduced, known_at, known_redex, known_typed}
-use Rattle.fp_quant.specs.Existence.{at_choice}
+use Rattle.fp_forms.specs.Existence.{at_choice}
 use Rattle.fp_quant.proofs.Existing.{at_choice_formula}
 use Rattle.fp_quant.proofs.witness.chosen.Goals as goal
 
