@@ -43,6 +43,16 @@ fn push_statement(
     }
 }
 
+// Puts the name of a definition's theorem at the end.
+fn push_head(text: &mut Vec<u8>, name: &Name) -> Result<(), AllocError>
+    ensures { OnOk result (text.new.items ≡ text.old.items ++ (codes "definition " ++ name.now ++ codes "_def: ")) }
+{
+    text.extend_from_slice(b"definition ")?;
+    text.extend_from_slice(name.as_slice())?;
+    text.extend_from_slice(b"_def: ")?;
+    Ok(())
+}
+
 // Puts the line of an accepted definition at the end.
 fn push_definition(
     alloc: Global,
@@ -54,9 +64,7 @@ fn push_definition(
     ensures derived { OnOk result (IsTheorem theorem.now) }
     ensures line { OnOk result (text.new.items ≡ text.old.items ++ (codes "definition " ++ name.now ++ codes "_def: " ++ statement_text full theorem.now.hyps theorem.now.concl ++ 10 ∷ [])) }
 {
-    text.extend_from_slice(b"definition ")?;
-    text.extend_from_slice(name.as_slice())?;
-    text.extend_from_slice(b"_def: ")?;
+    push_head(text, name)?;
     push_statement(alloc, text, full, theorem)?;
     text.push(b'\n')?;
     Ok(())

@@ -93,6 +93,20 @@ fn head(alloc: Global, file: &str, at: u32, kind: &str) -> Result<String, AllocE
     Ok(line)
 }
 
+// Puts that at the end.
+fn push_head(
+    alloc: Global,
+    text: &mut Vec<u8>,
+    file: &str,
+    at: u32,
+    kind: &str,
+) -> Result<(), AllocError>
+    ensures { OnOk result (text.new.items ≡ text.old.items ++ (codes "refused " ++ file.now ++ codes " at " ++ decimal at ++ codes ": " ++ kind.now)) }
+{
+    let line = head(alloc, file, at, kind)?;
+    text.extend_from_slice(line.as_bytes())
+}
+
 // Puts the line of a refusal at the end.
 pub fn push_refusal(
     alloc: Global,
@@ -103,8 +117,7 @@ pub fn push_refusal(
     ensures { OnOk result (text.new.items ≡ text.old.items ++ refusal_line file.now refusal.now.at (fault_seen refusal.now.reason)) }
 {
     let (kind, name) = parts_of(&refusal.reason);
-    let line = head(alloc, file, refusal.at, kind)?;
-    text.extend_from_slice(line.as_bytes())?;
+    push_head(alloc, text, file, refusal.at, kind)?;
     push_name(text, name)?;
     text.push(b'\n')?;
     Ok(())

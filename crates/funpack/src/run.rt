@@ -5,7 +5,7 @@ ghost use Rattle.fp_outside.specs.Sink.{AppendsPrefix};
 ghost use Rattle.funpack.specs.Words.{asked, usage_line};
 ghost use Rattle.funpack.specs.Report.{Writes, WritesPart};
 
-use crate::report::{ReportFault, report_of};
+use crate::report::{Report, ReportFault, report_of};
 use crate::words::{Words, asked};
 use fp_outside::{Failed, Files, Sink, write_all};
 use std::alloc::Global;
@@ -62,10 +62,23 @@ fn run_file<F: Files, K: Sink>(alloc: Global, words: &Words<'_>, files: &mut F, 
     ensures range { result ≤ 5 }
 {
     match report_of(alloc, files, words) {
-        Ok(report) => finish(sink, &report.text, if report.refused { 1 } else { 0 }),
+        Ok(report) => finish_report(sink, &report),
         Err(ReportFault::Failed) => 3,
         Err(ReportFault::NoMemory) => 5,
     }
+}
+
+// Writes the text of the report, and answers 1 where it ends with a refusal, else 0, and 4 for a fault of the sink.
+fn finish_report<K: Sink>(sink: &mut K, report: &Report) -> u8
+    requires { K.faults sink.old < 2 ^ 64 - 1 }
+    ensures accepted { result ≡ 0 → (report.now.refused ≡ false) × Appends (K.written sink.old) (K.written sink.new) report.now.text.items }
+    ensures refused { result ≡ 1 → (report.now.refused ≡ true) × Appends (K.written sink.old) (K.written sink.new) report.now.text.items }
+    ensures quiet { result < 3 → K.faults sink.new ≡ K.faults sink.old }
+    ensures sink_fault { result ≡ 4 → (K.faults sink.old < K.faults sink.new) × AppendsPrefix (K.written sink.old) (K.written sink.new) report.now.text.items }
+    ensures complete { K.faults sink.new ≡ K.faults sink.old → result < 2 }
+    ensures range { (result < 2) ⊎ (result ≡ 4) }
+{
+    finish(sink, &report.text, if report.refused { 1 } else { 0 })
 }
 
 // Writes the text, and answers the status that belongs to it.

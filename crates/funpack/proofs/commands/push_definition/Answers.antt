@@ -5,5 +5,5 @@ use Rattle.funpack.proofs.commands.push_definition.Goals as goal
 
 pub returns-clause-line : goal.returns-clause-line
 returns-clause-line c =
-    rw (c.in_ok-push.ensures.items, c.in_ok-push_statement.ensures.printed, c.in_ok-extend_from_slice-3.ensures.items, c.in_ok-extend_from_slice-2.ensures.items, c.in_ok-extend_from_slice.ensures.items, c.as_slice.ensures.value)
+    rw (c.in_ok-push.ensures.items, c.in_ok-push_statement.ensures.printed, c.in_ok-push_head.ensures)
     (regrouped c.args.text.now.items (codes "definition ") c.args.name.now (codes "_def: ") (statement_text c.args.full c.args.theorem.now.hyps c.args.theorem.now.concl) (10 ∷ []))

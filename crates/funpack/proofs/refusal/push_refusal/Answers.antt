@@ -6,5 +6,5 @@ use Rattle.funpack.proofs.refusal.push_refusal.Goals as goal
 
 pub returns : goal.returns
 returns c =
-    rw (c.in_ok-push.ensures.items, c.in_ok-push_name.ensures, c.in_ok-extend_from_slice.ensures.items, c.as_bytes.ensures.value, c.parts_of.ensures, c.in_ok-line.ensures)
+    rw (c.in_ok-push.ensures.items, c.in_ok-push_name.ensures, c.in_ok-push_head.ensures, c.parts_of.ensures)
     (rejoined c.args.text.now.items (codes "refused ") c.args.file.now (codes " at ") (decimal c.args.refusal.now.at) (codes ": ") c.parts_of.result.0.now (shown_name c.parts_of.result.1) (10 ∷ []))
