@@ -2,3 +2,4 @@ pub mod Forms
 pub mod Derived
 pub mod Steps
 pub mod Schemas
+pub mod Equations

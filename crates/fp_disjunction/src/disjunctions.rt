@@ -1,15 +1,16 @@
 //! What a disjunction says, and forms of disjunctions. Primitive steps: `cases` 88.
-ghost use Rattle.std.specs.Prelude.{◌≡◌, codes, IfOk};
+ghost use Rattle.std.specs.Prelude.{◌≡◌, IfOk};
 ghost use Rattle.fp_term.specs.Terms.{app};
-ghost use Rattle.fp_conclude.specs.Logic.{truth_type, equal, true_constant, quantifier, implication};
+ghost use Rattle.fp_conclude.specs.Logic.{truth_type, equal, true_constant, implication};
 ghost use Rattle.fp_conclude.specs.Outcomes.{Answers};
 ghost use Rattle.fp_kernel.specs.Definitions.{Within};
 ghost use Rattle.fp_kernel.specs.Derivability.{IsFormula};
 ghost use Rattle.fp_kernel.specs.Start.{signature_of};
+ghost use Rattle.fp_disjunction.specs.Equations.{disjunction_is, disjunction_is_for_all};
 ghost use Rattle.fp_disjunction.specs.Forms.{disjunction};
 ghost use Rattle.fp_disjunction.specs.Derived.{either_way, cases_from};
 ghost use Rattle.fp_forms.specs.Schemas.{p_variable, q_variable};
-ghost use Rattle.fp_disjunction.specs.Schemas.{each_way, all_ways, always_true};
+ghost use Rattle.fp_disjunction.specs.Schemas.{each_way, all_ways};
 ghost use Rattle.fp_forms.specs.Shapes.{left, right};
 ghost use Rattle.fp_logic.specs.Steps.{plain, by_one, by_both, without_one};
 ghost use Rattle.fp_disjunction.specs.Steps.{IsDisjunction};
@@ -30,7 +31,7 @@ use std::alloc::{AllocError, Global};
 
 // `(p \/ q) = (!r. (p --> r) --> (q --> r) --> r)`, for the variables.
 fn quantified_schema(alloc: Global, defs: &Defs) -> Result<Thm, AllocError>
-    ensures { IfOk result (λ th. th ≡ plain defs.now (equal truth_type (disjunction p_variable q_variable) (app (quantifier (codes "all") truth_type) (all_ways p_variable q_variable)))) }
+    ensures { IfOk result (λ th. th ≡ plain defs.now (disjunction_is_for_all p_variable q_variable)) }
 {
     let meaning = definition(alloc, defs, 6)?;
     unfold_twice(alloc, defs, &meaning)
@@ -38,7 +39,7 @@ fn quantified_schema(alloc: Global, defs: &Defs) -> Result<Thm, AllocError>
 
 // `(p \/ q) = ((%r. (p --> r) --> (q --> r) --> r) = (%x. T))`, for the variables.
 fn disjunction_schema(alloc: Global, defs: &Defs) -> Result<Thm, AllocError>
-    ensures { IfOk result (λ th. th ≡ plain defs.now (equal truth_type (disjunction p_variable q_variable) (always_true (all_ways p_variable q_variable)))) }
+    ensures { IfOk result (λ th. th ≡ plain defs.now (disjunction_is p_variable q_variable)) }
 {
     let quantified = quantified_schema(alloc, defs)?;
     let predicate = argument_in(shapes::right(quantified.concl()));
@@ -55,7 +56,7 @@ pub fn disjunction_meaning(
 ) -> Result<Thm, AllocError>
     requires first { IsFormula (signature_of defs.now) left.now }
     requires second { IsFormula (signature_of defs.now) right.now }
-    ensures { IfOk result (λ th. th ≡ plain defs.now (equal truth_type (disjunction left.now right.now) (always_true (all_ways left.now right.now)))) }
+    ensures { IfOk result (λ th. th ≡ plain defs.now (disjunction_is left.now right.now)) }
 {
     let schema = disjunction_schema(alloc, defs)?;
     instance(alloc, defs, &schema, left, right)

@@ -1,13 +1,13 @@
 //! Disjunctions from one of their formulas. Primitive steps: `disj1` 8, `disj2` 6.
-ghost use Rattle.std.specs.Prelude.{◌≡◌, codes, IfOk};
-ghost use Rattle.fp_term.specs.Terms.{app, abs, closed};
-ghost use Rattle.fp_conclude.specs.Logic.{truth_type, predicate_type, binary_type, equal, true_constant, connective, implication};
+ghost use Rattle.std.specs.Prelude.{◌≡◌, IfOk};
+ghost use Rattle.fp_conclude.specs.Logic.{truth_type, equal, true_constant, implication};
 ghost use Rattle.fp_conclude.specs.Outcomes.{Answers};
 ghost use Rattle.fp_kernel.specs.Definitions.{Within};
 ghost use Rattle.fp_kernel.specs.Derivability.{IsFormula};
 ghost use Rattle.fp_kernel.specs.Start.{signature_of};
 ghost use Rattle.fp_kernel.specs.Theorems.{from_one};
 ghost use Rattle.fp_disjunction.specs.Derived.{disj1_of, disj2_of};
+ghost use Rattle.fp_disjunction.specs.Equations.{disjunction_is, always, or_is_itself, or_of_is_itself, or_of_truth_is, truth_first_is, truth_second_is};
 ghost use Rattle.fp_disjunction.specs.Forms.{disjunction};
 ghost use Rattle.fp_forms.specs.Schemas.{q_variable, held};
 ghost use Rattle.fp_disjunction.specs.Schemas.{r_variable, each_way, all_ways, always_true};
@@ -133,7 +133,7 @@ fn second_way(alloc: Global, defs: &Defs) -> Result<Thm, AllocError>
 #[tactic(auto, unfolding(fp_term::specs::Names::is_name))]
 fn abstracted(alloc: Global, defs: &Defs, th: &Thm) -> Result<Thm, AllocError>
     requires { th.now ≡ plain defs.now (equal truth_type (left th.now.concl) true_constant) }
-    ensures { IfOk result (λ g. g ≡ plain defs.now (always_true (abs truth_type (closed 0 (codes "r") truth_type (left th.now.concl))))) }
+    ensures { IfOk result (λ g. g ≡ plain defs.now (always (left th.now.concl))) }
 {
     let name = Name::of(alloc, b"r")?;
     let ty = truth_type(alloc)?;
@@ -143,7 +143,7 @@ fn abstracted(alloc: Global, defs: &Defs, th: &Thm) -> Result<Thm, AllocError>
 // `(%r. p) = (%r. T)` from `p` without hypotheses, for the variable `r`.
 fn generalized(alloc: Global, defs: &Defs, th: &Thm) -> Result<Thm, AllocError>
     requires { th.now ≡ plain defs.now th.now.concl }
-    ensures { IfOk result (λ g. g ≡ plain defs.now (always_true (abs truth_type (closed 0 (codes "r") truth_type th.now.concl)))) }
+    ensures { IfOk result (λ g. g ≡ plain defs.now (always th.now.concl)) }
 {
     let equation = true_equation(alloc, defs, th)?;
     abstracted(alloc, defs, &equation)
@@ -185,7 +185,7 @@ pub fn second_schema(alloc: Global, defs: &Defs) -> Result<Thm, AllocError>
 
 // What `T \/ q` says, for the variable.
 fn truth_first(alloc: Global, defs: &Defs) -> Result<Thm, AllocError>
-    ensures { IfOk result (λ th. th ≡ plain defs.now (equal truth_type (disjunction true_constant q_variable) (always_true (all_ways true_constant q_variable)))) }
+    ensures { IfOk result (λ th. th ≡ plain defs.now (disjunction_is true_constant q_variable)) }
 {
     let truth = true_constant(alloc)?;
     let other = q_variable(alloc)?;
@@ -194,7 +194,7 @@ fn truth_first(alloc: Global, defs: &Defs) -> Result<Thm, AllocError>
 
 // What `q \/ T` says, for the variable.
 fn truth_second(alloc: Global, defs: &Defs) -> Result<Thm, AllocError>
-    ensures { IfOk result (λ th. th ≡ plain defs.now (equal truth_type (disjunction q_variable true_constant) (always_true (all_ways q_variable true_constant)))) }
+    ensures { IfOk result (λ th. th ≡ plain defs.now (disjunction_is q_variable true_constant)) }
 {
     let truth = true_constant(alloc)?;
     let other = q_variable(alloc)?;
@@ -204,7 +204,7 @@ fn truth_second(alloc: Global, defs: &Defs) -> Result<Thm, AllocError>
 // `or = or`
 #[tactic(auto, unfolding(fp_term::specs::Names::is_name))]
 fn own_or(alloc: Global, defs: &Defs) -> Result<Thm, AllocError>
-    ensures { IfOk result (λ th. th ≡ plain defs.now (equal (binary_type truth_type truth_type) (connective (codes "or")) (connective (codes "or")))) }
+    ensures { IfOk result (λ th. th ≡ plain defs.now or_is_itself) }
 {
     let or = connective(alloc, b"or")?;
     own(alloc, defs, &or)
@@ -213,7 +213,7 @@ fn own_or(alloc: Global, defs: &Defs) -> Result<Thm, AllocError>
 // `or T = or p` from `T = p`.
 fn or_replaced(alloc: Global, defs: &Defs, th: &Thm) -> Result<Thm, AllocError>
     requires { th.now ≡ by_one defs.now th.now (held (right th.now.concl)) }
-    ensures { IfOk result (λ e. e ≡ by_one defs.now th.now (equal (predicate_type truth_type) (app (connective (codes "or")) true_constant) (app (connective (codes "or")) (right th.now.concl)))) }
+    ensures { IfOk result (λ e. e ≡ by_one defs.now th.now (or_of_truth_is (right th.now.concl))) }
 {
     let _hyps = th.hyps();
     let _promises = th.promises();
@@ -225,7 +225,7 @@ fn or_replaced(alloc: Global, defs: &Defs, th: &Thm) -> Result<Thm, AllocError>
 fn first_replaced(alloc: Global, defs: &Defs, th: &Thm, term: &Term) -> Result<Thm, AllocError>
     requires held { th.now ≡ by_one defs.now th.now (held (right th.now.concl)) }
     requires formula { IsFormula (signature_of defs.now) term.now }
-    ensures { IfOk result (λ e. e ≡ by_one defs.now th.now (equal truth_type (disjunction true_constant term.now) (disjunction (right th.now.concl) term.now))) }
+    ensures { IfOk result (λ e. e ≡ by_one defs.now th.now (truth_first_is (right th.now.concl) term.now)) }
 {
     let once = or_replaced(alloc, defs, th)?;
     let own = own(alloc, defs, term)?;
@@ -236,7 +236,7 @@ fn first_replaced(alloc: Global, defs: &Defs, th: &Thm, term: &Term) -> Result<T
 #[tactic(auto, unfolding(fp_term::specs::Names::is_name))]
 fn own_or_at(alloc: Global, defs: &Defs, term: &Term) -> Result<Thm, AllocError>
     requires { IsFormula (signature_of defs.now) term.now }
-    ensures { IfOk result (λ th. th ≡ plain defs.now (equal (predicate_type truth_type) (app (connective (codes "or")) term.now) (app (connective (codes "or")) term.now))) }
+    ensures { IfOk result (λ th. th ≡ plain defs.now (or_of_is_itself term.now)) }
 {
     let or = connective(alloc, b"or")?;
     let applied = apply(alloc, &or, term)?;
@@ -247,7 +247,7 @@ fn own_or_at(alloc: Global, defs: &Defs, term: &Term) -> Result<Thm, AllocError>
 fn second_replaced(alloc: Global, defs: &Defs, th: &Thm, term: &Term) -> Result<Thm, AllocError>
     requires held { th.now ≡ by_one defs.now th.now (held (right th.now.concl)) }
     requires formula { IsFormula (signature_of defs.now) term.now }
-    ensures { IfOk result (λ e. e ≡ by_one defs.now th.now (equal truth_type (disjunction term.now true_constant) (disjunction term.now (right th.now.concl)))) }
+    ensures { IfOk result (λ e. e ≡ by_one defs.now th.now (truth_second_is term.now (right th.now.concl))) }
 {
     let _hyps = th.hyps();
     let _promises = th.promises();
@@ -259,7 +259,7 @@ fn second_replaced(alloc: Global, defs: &Defs, th: &Thm, term: &Term) -> Result<
 fn first_equation(alloc: Global, defs: &Defs, a: &Thm, term: &Term) -> Result<Thm, AllocError>
     requires within { Within a.now.defs defs.now }
     requires formula { IsFormula (signature_of defs.now) term.now }
-    ensures { IfOk result (λ e. e ≡ by_one defs.now a.now (equal truth_type (disjunction true_constant term.now) (disjunction a.now.concl term.now))) }
+    ensures { IfOk result (λ e. e ≡ by_one defs.now a.now (truth_first_is a.now.concl term.now)) }
 {
     let held = hold(alloc, defs, a)?;
     first_replaced(alloc, defs, &held, term)
@@ -269,7 +269,7 @@ fn first_equation(alloc: Global, defs: &Defs, a: &Thm, term: &Term) -> Result<Th
 fn second_equation(alloc: Global, defs: &Defs, term: &Term, a: &Thm) -> Result<Thm, AllocError>
     requires within { Within a.now.defs defs.now }
     requires formula { IsFormula (signature_of defs.now) term.now }
-    ensures { IfOk result (λ e. e ≡ by_one defs.now a.now (equal truth_type (disjunction term.now true_constant) (disjunction term.now a.now.concl))) }
+    ensures { IfOk result (λ e. e ≡ by_one defs.now a.now (truth_second_is term.now a.now.concl)) }
 {
     let held = hold(alloc, defs, a)?;
     second_replaced(alloc, defs, &held, term)

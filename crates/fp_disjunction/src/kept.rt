@@ -1,7 +1,5 @@
 //! `T \/ q` and `q \/ T`, each derived once and kept beside the definitions.
-ghost use Rattle.std.specs.Prelude.{◌≡◌, [], codes, IfOk};
-ghost use Rattle.fp_term.specs.Terms.{app};
-ghost use Rattle.fp_conclude.specs.Logic.{connective};
+ghost use Rattle.std.specs.Prelude.{◌≡◌, [], IfOk};
 ghost use Rattle.fp_logic.specs.Steps.{plain};
 ghost use Rattle.fp_disjunction.specs.Forms.{disjunction};
 ghost use Rattle.fp_disjunction.specs.Schemas.{joined_truth};

@@ -17,7 +17,8 @@ pub report_unread : {E : Type 0} (full : Bool) (file bytes : List ℕ) (fault : 
 report_unread full file bytes fault at (Ok report) f c = rw (c.0, c.1) (unread fault at f)
 report_unread full file bytes fault at (Err e) f c = tt
 
-pub reports_long : (held : Option (List (List ℕ × List ℕ))) (full : Bool) (file text : List ℕ) (ends : Bool) → IsLonger held file byte_limit → text ≡ refusal_line file byte_limit too_long → ends ≡ true → Reports held full file text ends
-reports_long None full file text ends l t e = tt
-reports_long (Some files) full file text ends l t e =
-    rw (t, e, ap (λ o. unwrap_or o []) l.1) (unread too_long byte_limit (l.2, refl))
+pub reports_long : {E : Type 0} (held : Option (List (List ℕ × List ℕ))) (full : Bool) (file : List ℕ) (r : Result Report E) → IsLonger held file byte_limit →
+    IfOk r (λ report. (report.text.items ≡ refusal_line file byte_limit too_long) × (report.refused ≡ true)) → IfOk r (λ report. Reports held full file report.text.items report.refused)
+reports_long None full file (Ok report) l c = tt
+reports_long (Some files) full file (Ok report) l c = rw (c.0, c.1, ap (λ o. unwrap_or o []) l.1) (unread too_long byte_limit (l.2, refl))
+reports_long held full file (Err e) l c = tt

@@ -11,17 +11,19 @@ mod words;
 
 use fp_outside::{RealFiles, StdSink};
 use run::run;
-use std::alloc::AllocError;
-use std::env;
 use std::process::ExitCode;
+use std::{env, io};
 
-// The words after the program's name.
-fn words_of(rt: &(impl std::rt::Env + AllocGlobal)) -> Result<Vec<String>, AllocError> {
-    let mut words = Vec::new(rt.alloc());
-    for word in env::args(rt).map_err(|_| AllocError)?.skip(1) {
-        words.push(word)?;
+// The words after the program's name. Words that aren't text count as none, which are malformed.
+fn words_of(rt: &(impl std::rt::Env + AllocGlobal)) -> io::Result<Vec<String>> {
+    match env::args(rt) {
+        Ok(mut words) => {
+            words.next();
+            Ok(words.collect(rt.alloc())?)
+        }
+        Err(fault) if fault.kind() == io::ErrorKind::InvalidData => Ok(Vec::new(rt.alloc())),
+        Err(fault) => Err(fault),
     }
-    Ok(words)
 }
 
 fn main(rt: HostRuntime) -> ExitCode {

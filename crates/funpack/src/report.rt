@@ -1,14 +1,12 @@
-ghost use Rattle.std.specs.Prelude.{◌≡◌, ◌≤◌, ◌<◌, ◌^◌, ◌-◌, ◌↔◌, length, true, IfOk};
-ghost use Rattle.std.specs.Result.{IsErrOf};
+ghost use Rattle.std.specs.Prelude.{◌≡◌, ◌≤◌, ◌<◌, ◌^◌, ◌-◌, ◌↔◌, length, true, IfOk, IsErr};
 ghost use Rattle.funpack.specs.Report.{IsReport, Reports, refusal_line};
 ghost use Rattle.funpack.specs.Reasons.{fault_seen};
-ghost use Rattle.funpack.specs.declared.report.ReportFault.TheVariants as fault;
 
 use crate::commands::carry_out;
 use crate::refusal::{Reason, Refusal, push_refusal};
 use crate::words::Words;
 use fp_full::{FullFault, read_definitions_at};
-use fp_outside::{Files, ReadFault, read_all};
+use fp_outside::{Failed, Files, ReadFault, read_all};
 use std::alloc::{AllocError, Global};
 
 // The most bytes of a file.
@@ -19,23 +17,6 @@ const LIMIT: usize = 4194304;
 pub struct Report {
     pub text: Vec<u8>,
     pub refused: bool,
-}
-
-/// Why there is no text of a file.
-#[derive(Clone, Copy)]
-pub enum ReportFault {
-    /// A call to the files failed.
-    Failed,
-    /// Memory ran out.
-    NoMemory,
-}
-
-impl From<AllocError> for ReportFault {
-    ghost from_gives = { λ _ f. f ≡ fault.NoMemory };
-
-    fn from(_: AllocError) -> Self {
-        ReportFault::NoMemory
-    }
 }
 
 // The text of a file that isn't read.
@@ -64,22 +45,22 @@ fn report_on(alloc: Global, words: &Words<'_>, bytes: &[u8]) -> Result<Report, A
     }
 }
 
-// The text of the named file. `Failed` comes exactly where the count of the files rose, and the only other fault is want of
+// The text of the named file. `Failed` comes exactly where the count of the files rose, and else there is a text but for want of
 // memory.
 pub fn report_of<F: Files>(
     alloc: Global,
     files: &mut F,
     words: &Words<'_>,
-) -> Result<Report, ReportFault>
+) -> Result<Result<Report, AllocError>, Failed>
     requires { F.faults files.old < 2 ^ 64 - 1 }
-    ensures reports { IfOk result (λ report. Reports (F.held files.old) words.now.full words.now.file.now report.text.items report.refused) }
-    ensures failed { IsErrOf result ReportFault.Failed ↔ (F.faults files.old < F.faults files.new) }
+    ensures reports { IfOk result (λ report. IfOk report (λ r. Reports (F.held files.old) words.now.full words.now.file.now r.text.items r.refused)) }
+    ensures failed { IsErr result ↔ (F.faults files.old < F.faults files.new) }
     ensures counts { F.faults files.old ≤ F.faults files.new }
 {
     match read_all(alloc, files, words.file, LIMIT) {
-        Ok(bytes) => Ok(report_on(alloc, words, &bytes)?),
-        Err(ReadFault::TooLong) => Ok(unread(alloc, words.file, 4194304, Reason::TooLong)?),
-        Err(ReadFault::Failed) => Err(ReportFault::Failed),
-        Err(ReadFault::NoMemory) => Err(ReportFault::NoMemory),
+        Ok(bytes) => Ok(report_on(alloc, words, &bytes)),
+        Err(ReadFault::TooLong) => Ok(unread(alloc, words.file, 4194304, Reason::TooLong)),
+        Err(ReadFault::Failed) => Err(Failed),
+        Err(ReadFault::NoMemory) => Ok(Err(AllocError)),
     }
 }

@@ -5,10 +5,10 @@ ghost use Rattle.fp_outside.specs.Sink.{AppendsPrefix};
 ghost use Rattle.funpack.specs.Words.{asked, usage_line};
 ghost use Rattle.funpack.specs.Report.{Writes, WritesPart};
 
-use crate::report::{Report, ReportFault, report_of};
+use crate::report::{Report, report_of};
 use crate::words::{Words, asked};
 use fp_outside::{Failed, Files, Sink, write_all};
-use std::alloc::Global;
+use std::alloc::{AllocError, Global};
 
 const USAGE: &[u8] = b"usage: funpack run [--full] [--workers N] FILE...\n";
 
@@ -62,9 +62,9 @@ fn run_file<F: Files, K: Sink>(alloc: Global, words: &Words<'_>, files: &mut F, 
     ensures range { result ≤ 5 }
 {
     match report_of(alloc, files, words) {
-        Ok(report) => finish_report(sink, &report),
-        Err(ReportFault::Failed) => 3,
-        Err(ReportFault::NoMemory) => 5,
+        Ok(Ok(report)) => finish_report(sink, &report),
+        Ok(Err(AllocError)) => 5,
+        Err(Failed) => 3,
     }
 }
 

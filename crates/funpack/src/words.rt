@@ -1,4 +1,4 @@
-ghost use Rattle.std.specs.Prelude.{◌≡◌, [], ◌∷◌, map, Some, None, MatchOption};
+ghost use Rattle.std.specs.Prelude.{◌≡◌, ◌∷◌, map, codes, Some, None, true, false, MatchOption};
 ghost use Rattle.std.specs.String.{string_bytes};
 ghost use Rattle.funpack.specs.Words.{asked, is_file_name};
 
@@ -11,36 +11,33 @@ pub struct Words<'a> {
     pub file: &'a str,
 }
 
-/// What the words ask for, where they are well formed.
+/// What the words ask for, where they are well formed: `run FILE` or `run --full FILE`.
 pub fn asked(words: &[String]) -> Option<Words<'_>>
     ensures { MatchOption result (asked (map string_bytes words.now) ≡ None) (λ w. asked (map string_bytes words.now) ≡ Some (w.full, w.file.now)) }
 {
-    if let [run, name] = words {
-        return short_form(run.as_str(), name.as_str());
-    }
-    let [run, full, name] = words else {
-        return None;
-    };
-    full_form(run.as_str(), full.as_str(), name.as_str())
-}
-
-// `run FILE`
-fn short_form<'a>(run: &str, file: &'a str) -> Option<Words<'a>>
-    ensures { MatchOption result (asked (run.now ∷ file.now ∷ []) ≡ None) (λ w. asked (run.now ∷ file.now ∷ []) ≡ Some (w.full, w.file.now)) }
-{
-    if run == "run" && can_name_file(file) {
-        Some(Words { full: false, file })
-    } else {
-        None
+    match words {
+        [run, rest @ ..] if run.as_str() == "run" => asked_of_run(rest),
+        _ => None,
     }
 }
 
-// `run --full FILE`
-fn full_form<'a>(run: &str, full: &str, file: &'a str) -> Option<Words<'a>>
-    ensures { MatchOption result (asked (run.now ∷ full.now ∷ file.now ∷ []) ≡ None) (λ w. asked (run.now ∷ full.now ∷ file.now ∷ []) ≡ Some (w.full, w.file.now)) }
+// What the words after `run` ask for: `FILE` or `--full FILE`.
+fn asked_of_run(words: &[String]) -> Option<Words<'_>>
+    ensures { MatchOption result (asked (codes "run" ∷ map string_bytes words.now) ≡ None) (λ w. asked (codes "run" ∷ map string_bytes words.now) ≡ Some (w.full, w.file.now)) }
 {
-    if run == "run" && full == "--full" && can_name_file(file) {
-        Some(Words { full: true, file })
+    match words {
+        [file] => asked_of_file(false, file.as_str()),
+        [full, file] if full.as_str() == "--full" => asked_of_file(true, file.as_str()),
+        _ => None,
+    }
+}
+
+// The words for a file, where its name is one.
+fn asked_of_file(full: bool, file: &str) -> Option<Words<'_>>
+    ensures { MatchOption result (is_file_name file.now ≡ false) (λ w. (is_file_name file.now ≡ true) × (w.full ≡ full) × (w.file.now ≡ file.now)) }
+{
+    if can_name_file(file) {
+        Some(Words { full, file })
     } else {
         None
     }
