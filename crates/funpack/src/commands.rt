@@ -1,3 +1,4 @@
+//! Definitions carried out one after the other, and the lines of their theorems.
 ghost use Rattle.std.specs.Prelude.{◌≡◌, ◌++◌, [], ◌∷◌, codes, OnOk, IfOk};
 ghost use Rattle.fp_kernel.specs.Theorems.{IsTheorem};
 ghost use Rattle.fp_print.specs.Texts.{short_statement};

@@ -1,3 +1,4 @@
+//! The text that is written for a file.
 ghost use Rattle.std.specs.Prelude.{◌≡◌, ◌≤◌, ◌<◌, ◌^◌, ◌-◌, ◌↔◌, length, true, IfOk, IsErr};
 ghost use Rattle.funpack.specs.Report.{IsReport, Reports, refusal_line};
 ghost use Rattle.funpack.specs.Reasons.{fault_seen};
@@ -10,7 +11,7 @@ use fp_outside::{Failed, Files, ReadFault, read_all};
 use std::alloc::{AllocError, Global};
 
 // The most bytes of a file.
-const LIMIT: usize = 4194304;
+const LIMIT: u32 = 4194304;
 
 // A whole text, and whether it ends with a refusal.
 #[derive(Drop)]
@@ -57,9 +58,9 @@ pub fn report_of<F: Files>(
     ensures failed { IsErr result ↔ (F.faults files.old < F.faults files.new) }
     ensures counts { F.faults files.old ≤ F.faults files.new }
 {
-    match read_all(alloc, files, words.file, LIMIT) {
+    match read_all(alloc, files, words.file, LIMIT as usize) {
         Ok(bytes) => Ok(report_on(alloc, words, &bytes)),
-        Err(ReadFault::TooLong) => Ok(unread(alloc, words.file, 4194304, Reason::TooLong)),
+        Err(ReadFault::TooLong) => Ok(unread(alloc, words.file, LIMIT, Reason::TooLong)),
         Err(ReadFault::Failed) => Err(Failed),
         Err(ReadFault::NoMemory) => Ok(Err(AllocError)),
     }

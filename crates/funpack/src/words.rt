@@ -1,3 +1,4 @@
+//! The words of the program.
 ghost use Rattle.std.specs.Prelude.{◌≡◌, ◌∷◌, map, codes, Some, None, true, false, MatchOption};
 ghost use Rattle.std.specs.String.{string_bytes};
 ghost use Rattle.funpack.specs.Words.{asked, is_file_name};
