@@ -14,8 +14,8 @@ abbrev pub disjunction_is : Tm → Tm → Tm
 disjunction_is p q = equal truth_type (disjunction p q) (always_true (all_ways p q))
 
 -- `(%r. p) = (%r. T)`, for the variable `r`
-abbrev pub always : Tm → Tm
-always p = always_true (abs truth_type (closed 0 (codes "r") truth_type p))
+abbrev pub true_for_all_r : Tm → Tm
+true_for_all_r p = always_true (abs truth_type (closed 0 (codes "r") truth_type p))
 
 -- `or = or`, and `or t = or t`
 abbrev pub or_is_itself : Tm

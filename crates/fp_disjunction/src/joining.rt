@@ -7,7 +7,7 @@ ghost use Rattle.fp_kernel.specs.Derivability.{IsFormula};
 ghost use Rattle.fp_kernel.specs.Start.{signature_of};
 ghost use Rattle.fp_kernel.specs.Theorems.{from_one};
 ghost use Rattle.fp_disjunction.specs.Derived.{disj1_of, disj2_of};
-ghost use Rattle.fp_disjunction.specs.Equations.{disjunction_is, always, or_is_itself, or_of_is_itself, or_of_truth_is, truth_first_is, truth_second_is};
+ghost use Rattle.fp_disjunction.specs.Equations.{disjunction_is, true_for_all_r, or_is_itself, or_of_is_itself, or_of_truth_is, truth_first_is, truth_second_is};
 ghost use Rattle.fp_disjunction.specs.Forms.{disjunction};
 ghost use Rattle.fp_forms.specs.Schemas.{q_variable, held};
 ghost use Rattle.fp_disjunction.specs.Schemas.{r_variable, each_way, all_ways, always_true};
@@ -133,7 +133,7 @@ fn second_way(alloc: Global, defs: &Defs) -> Result<Thm, AllocError>
 #[tactic(auto, unfolding(fp_term::specs::Names::is_name))]
 fn abstracted(alloc: Global, defs: &Defs, th: &Thm) -> Result<Thm, AllocError>
     requires { th.now ≡ plain defs.now (equal truth_type (left th.now.concl) true_constant) }
-    ensures { IfOk result (λ g. g ≡ plain defs.now (always (left th.now.concl))) }
+    ensures { IfOk result (λ g. g ≡ plain defs.now (true_for_all_r (left th.now.concl))) }
 {
     let name = Name::of(alloc, b"r")?;
     let ty = truth_type(alloc)?;
@@ -143,7 +143,7 @@ fn abstracted(alloc: Global, defs: &Defs, th: &Thm) -> Result<Thm, AllocError>
 // `(%r. p) = (%r. T)` from `p` without hypotheses, for the variable `r`.
 fn generalized(alloc: Global, defs: &Defs, th: &Thm) -> Result<Thm, AllocError>
     requires { th.now ≡ plain defs.now th.now.concl }
-    ensures { IfOk result (λ g. g ≡ plain defs.now (always th.now.concl)) }
+    ensures { IfOk result (λ g. g ≡ plain defs.now (true_for_all_r th.now.concl)) }
 {
     let equation = true_equation(alloc, defs, th)?;
     abstracted(alloc, defs, &equation)

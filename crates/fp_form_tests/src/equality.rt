@@ -37,7 +37,9 @@ const AP: &[(Call<'static>, &str)] = &[
             "(v f (fun 'a 'b))",
             Premise::Given("(a (a = (v x 'a)) (v y 'a))"),
         ),
-        "(s (h (a (a = (v x 'a)) (v y 'a))) (a (a (c eq (fun 'b (fun 'b ?))) (a (v f (fun 'a 'b)) (v x 'a))) (a (v f (fun 'a 'b)) (v y 'a))))",
+        "(s (h (a (a = (v x 'a)) (v y 'a))) \
+         (a (a (c eq (fun 'b (fun 'b ?))) (a (v f (fun 'a 'b)) (v x 'a))) \
+         (a (v f (fun 'a 'b)) (v y 'a))))",
     ),
     (
         Call::Ap("!", Premise::Alike("(v p ?)", "(v q ?)")),
@@ -99,7 +101,9 @@ const AP_ARG: &[(Call<'static>, &str)] = &[
             ),
             "(v x 'a)",
         ),
-        "(s (h (a (a (c eq (fun (fun 'a 'b) (fun (fun 'a 'b) ?))) (v f (fun 'a 'b))) (v g (fun 'a 'b)))) (a (a (c eq (fun 'b (fun 'b ?))) (a (v f (fun 'a 'b)) (v x 'a))) (a (v g (fun 'a 'b)) (v x 'a))))",
+        "(s (h (a (a (c eq (fun (fun 'a 'b) (fun (fun 'a 'b) ?))) (v f (fun 'a 'b))) \
+         (v g (fun 'a 'b)))) (a (a (c eq (fun 'b (fun 'b ?))) (a (v f (fun 'a 'b)) (v x 'a))) \
+         (a (v g (fun 'a 'b)) (v x 'a))))",
     ),
     (
         Call::ApArg(Premise::Same("!"), "(v p ?)"),

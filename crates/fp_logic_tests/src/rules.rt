@@ -164,7 +164,8 @@ const ORDER_OF_HYPOTHESES: &[(Call<'static>, &str)] = &[
             Premise::Joined("(a (a = (v u 'a)) (v v 'a))", "(a (a = (v v 'a)) (v w 'a))"),
             Premise::Joined("(a (a = (v w 'a)) (v v 'a))", "(a (a = (v v 'a)) (v u 'a))"),
         ),
-        "(s (h (a (a = (v u 'a)) (v v 'a)) (a (a = (v v 'a)) (v w 'a)) (a (a = (v w 'a)) (v v 'a)) (a (a = (v v 'a)) (v u 'a))) (a (a = (v u 'a)) (v u 'a)))",
+        "(s (h (a (a = (v u 'a)) (v v 'a)) (a (a = (v v 'a)) (v w 'a)) \
+         (a (a = (v w 'a)) (v v 'a)) (a (a = (v v 'a)) (v u 'a))) (a (a = (v u 'a)) (v u 'a)))",
     ),
     (
         Call::Trans(
@@ -178,7 +179,8 @@ const ORDER_OF_HYPOTHESES: &[(Call<'static>, &str)] = &[
             Premise::Same("(v h (fun 'a ?))"),
             Premise::Joined("(a (a = (v u 'a)) (v v 'a))", "(a (a = (v v 'a)) (v w 'a))"),
         ),
-        "(s (h (a (a = (v u 'a)) (v v 'a)) (a (a = (v v 'a)) (v w 'a))) (a (a ~ (a (v h (fun 'a ?)) (v u 'a))) (a (v h (fun 'a ?)) (v w 'a))))",
+        "(s (h (a (a = (v u 'a)) (v v 'a)) (a (a = (v v 'a)) (v w 'a))) \
+         (a (a ~ (a (v h (fun 'a ?)) (v u 'a))) (a (v h (fun 'a ?)) (v w 'a))))",
     ),
     (
         Call::MkComb(
@@ -187,7 +189,10 @@ const ORDER_OF_HYPOTHESES: &[(Call<'static>, &str)] = &[
             ),
             Premise::Given("(a (a = (v x 'a)) (v y 'a))"),
         ),
-        "(s (h (a (a (c eq (fun (fun 'a 'b) (fun (fun 'a 'b) ?))) (v f (fun 'a 'b))) (v g (fun 'a 'b))) (a (a = (v x 'a)) (v y 'a))) (a (a (c eq (fun 'b (fun 'b ?))) (a (v f (fun 'a 'b)) (v x 'a))) (a (v g (fun 'a 'b)) (v y 'a))))",
+        "(s (h (a (a (c eq (fun (fun 'a 'b) (fun (fun 'a 'b) ?))) (v f (fun 'a 'b))) \
+         (v g (fun 'a 'b))) (a (a = (v x 'a)) (v y 'a))) \
+         (a (a (c eq (fun 'b (fun 'b ?))) (a (v f (fun 'a 'b)) (v x 'a))) \
+         (a (v g (fun 'a 'b)) (v y 'a))))",
     ),
     (
         Call::EqMp(
@@ -265,7 +270,8 @@ const INSTANCES: &[(Call<'static>, &str)] = &[
             Premise::Given("(a (a ~ (a (a (v h (fun 'a (fun 'b ?))) (v x 'a)) (v x 'b))) (c T ?))"),
             &[("(v x 'a)", "(v y 'a)")],
         ),
-        "(s (h (a (a ~ (a (a (v h (fun 'a (fun 'b ?))) (v y 'a)) (v x 'b))) (c T ?))) (a (a ~ (a (a (v h (fun 'a (fun 'b ?))) (v y 'a)) (v x 'b))) (c T ?)))",
+        "(s (h (a (a ~ (a (a (v h (fun 'a (fun 'b ?))) (v y 'a)) (v x 'b))) (c T ?))) \
+         (a (a ~ (a (a (v h (fun 'a (fun 'b ?))) (v y 'a)) (v x 'b))) (c T ?)))",
     ),
 ];
 
@@ -295,7 +301,9 @@ const INSTANCES_OF_TYPES: &[(Call<'static>, &str)] = &[
             ),
             &[("a", "(v x 'b)"), ("b", "(v x 'a)")],
         ),
-        "(s (h (a (a (c eq (fun 'b (fun 'b ?))) (v x 'b)) (v x 'b)) (a (a = (v x 'a)) (v x 'a))) (a (a ~ (a (a (c eq (fun 'b (fun 'b ?))) (v x 'b)) (v x 'b))) (a (a = (v x 'a)) (v x 'a))))",
+        "(s (h (a (a (c eq (fun 'b (fun 'b ?))) (v x 'b)) (v x 'b)) (a (a = (v x 'a)) (v x 'a))) \
+         (a (a ~ (a (a (c eq (fun 'b (fun 'b ?))) (v x 'b)) (v x 'b))) \
+         (a (a = (v x 'a)) (v x 'a))))",
     ),
     (
         Call::InstTy(
@@ -322,7 +330,8 @@ const BOUND_NUMBERS: &[(Call<'static>, &str)] = &[
     // `(%x. x (%y. x)) f`, whose numbers differ.
     (
         Call::Beta("(a (l ? (a (a (v h (fun ? (fun (fun 'a ?) ?))) (b 0)) (l 'a (b 1)))) (v p ?))"),
-        "(s (h) (a (a ~ (a (l ? (a (a (v h (fun ? (fun (fun 'a ?) ?))) (b 0)) (l 'a (b 1)))) (v p ?))) (a (a (v h (fun ? (fun (fun 'a ?) ?))) (v p ?)) (l 'a (v p ?)))))",
+        "(s (h) (a (a ~ (a (l ? (a (a (v h (fun ? (fun (fun 'a ?) ?))) (b 0)) (l 'a (b 1)))) \
+         (v p ?))) (a (a (v h (fun ? (fun (fun 'a ?) ?))) (v p ?)) (l 'a (v p ?)))))",
     ),
     // `y` for `x` below a binder.
     (
@@ -330,7 +339,9 @@ const BOUND_NUMBERS: &[(Call<'static>, &str)] = &[
             Premise::Same("(l 'a (a (a (v h (fun 'a (fun 'a ?))) (b 0)) (v x 'a)))"),
             &[("(v x 'a)", "(v y 'a)")],
         ),
-        "(s (h) (a (a (c eq (fun (fun 'a ?) (fun (fun 'a ?) ?))) (l 'a (a (a (v h (fun 'a (fun 'a ?))) (b 0)) (v y 'a)))) (l 'a (a (a (v h (fun 'a (fun 'a ?))) (b 0)) (v y 'a)))))",
+        "(s (h) (a (a (c eq (fun (fun 'a ?) (fun (fun 'a ?) ?))) \
+         (l 'a (a (a (v h (fun 'a (fun 'a ?))) (b 0)) (v y 'a)))) \
+         (l 'a (a (a (v h (fun 'a (fun 'a ?))) (b 0)) (v y 'a)))))",
     ),
     // `'a` for `'b` below a binder.
     (
@@ -345,7 +356,9 @@ const BOUND_NUMBERS: &[(Call<'static>, &str)] = &[
                 "(a (a (a (v h (fun 'a (fun 'b (fun 'a ?)))) (v x 'a)) (v x 'b)) (v y 'a))",
             ),
         ),
-        "(s (h) (a (a (c eq (fun (fun 'a ?) (fun (fun 'a ?) ?))) (l 'a (a (a (a (v h (fun 'a (fun 'b (fun 'a ?)))) (b 0)) (v x 'b)) (v y 'a)))) (l 'a (a (a (a (v h (fun 'a (fun 'b (fun 'a ?)))) (b 0)) (v x 'b)) (v y 'a)))))",
+        "(s (h) (a (a (c eq (fun (fun 'a ?) (fun (fun 'a ?) ?))) \
+         (l 'a (a (a (a (v h (fun 'a (fun 'b (fun 'a ?)))) (b 0)) (v x 'b)) (v y 'a)))) \
+         (l 'a (a (a (a (v h (fun 'a (fun 'b (fun 'a ?)))) (b 0)) (v x 'b)) (v y 'a)))))",
     ),
     // `x` below a binder, and in hypotheses at another type.
     (
@@ -355,7 +368,9 @@ const BOUND_NUMBERS: &[(Call<'static>, &str)] = &[
                 "(a (a (c eq (fun (fun 'b 'b) (fun (fun 'b 'b) ?))) (l 'b (v x 'b))) (l 'b (b 0)))",
             ),
         ),
-        "(s (h (a (a (c eq (fun (fun 'b 'b) (fun (fun 'b 'b) ?))) (l 'b (v x 'b))) (l 'b (b 0)))) (a (a (c eq (fun (fun 'a (fun 'b 'b)) (fun (fun 'a (fun 'b 'b)) ?))) (l 'a (l 'b (v x 'b)))) (l 'a (l 'b (b 0)))))",
+        "(s (h (a (a (c eq (fun (fun 'b 'b) (fun (fun 'b 'b) ?))) (l 'b (v x 'b))) (l 'b (b 0)))) \
+         (a (a (c eq (fun (fun 'a (fun 'b 'b)) (fun (fun 'a (fun 'b 'b)) ?))) \
+         (l 'a (l 'b (v x 'b)))) (l 'a (l 'b (b 0)))))",
     ),
     // `x` below a binder.
     (
@@ -363,7 +378,9 @@ const BOUND_NUMBERS: &[(Call<'static>, &str)] = &[
             "(v x 'a)",
             Premise::Same("(l 'a (a (a (v h (fun 'a (fun 'a ?))) (v x 'a)) (b 0)))"),
         ),
-        "(s (h) (a (a (c eq (fun (fun 'a (fun 'a ?)) (fun (fun 'a (fun 'a ?)) ?))) (l 'a (l 'a (a (a (v h (fun 'a (fun 'a ?))) (b 1)) (b 0))))) (l 'a (l 'a (a (a (v h (fun 'a (fun 'a ?))) (b 1)) (b 0))))))",
+        "(s (h) (a (a (c eq (fun (fun 'a (fun 'a ?)) (fun (fun 'a (fun 'a ?)) ?))) \
+         (l 'a (l 'a (a (a (v h (fun 'a (fun 'a ?))) (b 1)) (b 0))))) \
+         (l 'a (l 'a (a (a (v h (fun 'a (fun 'a ?))) (b 1)) (b 0))))))",
     ),
 ];
 
@@ -388,7 +405,14 @@ const AXIOMS: &[(Call<'static>, &str)] = &[
     // `?f. (!x y. f x = f y --> x = y) /\ ~ (!y. ?x. y = f x)`
     (
         Call::Axiom(3),
-        "(s (h) (a (c ex (fun (fun (fun (ind) (ind)) ?) ?)) (l (fun (ind) (ind)) (a (a & (a (c all (fun (fun (ind) ?) ?)) (l (ind) (a (c all (fun (fun (ind) ?) ?)) (l (ind) (a (a > (a (a (c eq (fun (ind) (fun (ind) ?))) (a (b 2) (b 1))) (a (b 2) (b 0)))) (a (a (c eq (fun (ind) (fun (ind) ?))) (b 1)) (b 0)))))))) (a (c not (fun ? ?)) (a (c all (fun (fun (ind) ?) ?)) (l (ind) (a (c ex (fun (fun (ind) ?) ?)) (l (ind) (a (a (c eq (fun (ind) (fun (ind) ?))) (b 1)) (a (b 2) (b 0))))))))))))",
+        "(s (h) (a (c ex (fun (fun (fun (ind) (ind)) ?) ?)) \
+         (l (fun (ind) (ind)) (a (a & (a (c all (fun (fun (ind) ?) ?)) \
+         (l (ind) (a (c all (fun (fun (ind) ?) ?)) \
+         (l (ind) (a (a > (a (a (c eq (fun (ind) (fun (ind) ?))) (a (b 2) (b 1))) \
+         (a (b 2) (b 0)))) (a (a (c eq (fun (ind) (fun (ind) ?))) (b 1)) (b 0)))))))) \
+         (a (c not (fun ? ?)) (a (c all (fun (fun (ind) ?) ?)) \
+         (l (ind) (a (c ex (fun (fun (ind) ?) ?)) \
+         (l (ind) (a (a (c eq (fun (ind) (fun (ind) ?))) (b 1)) (a (b 2) (b 0))))))))))))",
     ),
 ];
 
@@ -407,7 +431,10 @@ const CONNECTIVES: &[(Call<'static>, &str)] = &[
     // `and = (%p q. (%f. f p q) = (%f. f T T))`
     (
         Call::Connective(2),
-        "(s (h) (a (a (c eq (fun (fun ? (fun ? ?)) (fun (fun ? (fun ? ?)) ?))) &) (l ? (l ? (a (a (c eq (fun (fun (fun ? (fun ? ?)) ?) (fun (fun (fun ? (fun ? ?)) ?) ?))) (l (fun ? (fun ? ?)) (a (a (b 0) (b 2)) (b 1)))) (l (fun ? (fun ? ?)) (a (a (b 0) (c T ?)) (c T ?))))))))",
+        "(s (h) (a (a (c eq (fun (fun ? (fun ? ?)) (fun (fun ? (fun ? ?)) ?))) &) \
+         (l ? (l ? (a (a (c eq (fun (fun (fun ? (fun ? ?)) ?) (fun (fun (fun ? (fun ? ?)) ?) ?))) \
+         (l (fun ? (fun ? ?)) (a (a (b 0) (b 2)) (b 1)))) \
+         (l (fun ? (fun ? ?)) (a (a (b 0) (c T ?)) (c T ?))))))))",
     ),
     // `imp = (%p q. (p /\ q) = p)`
     (
@@ -417,17 +444,26 @@ const CONNECTIVES: &[(Call<'static>, &str)] = &[
     // `all = (%P. P = (%x. T))`
     (
         Call::Connective(4),
-        "(s (h) (a (a (c eq (fun (fun (fun 'a ?) ?) (fun (fun (fun 'a ?) ?) ?))) (c all (fun (fun 'a ?) ?))) (l (fun 'a ?) (a (a (c eq (fun (fun 'a ?) (fun (fun 'a ?) ?))) (b 0)) (l 'a (c T ?))))))",
+        "(s (h) (a (a (c eq (fun (fun (fun 'a ?) ?) (fun (fun (fun 'a ?) ?) ?))) \
+         (c all (fun (fun 'a ?) ?))) (l (fun 'a ?) \
+         (a (a (c eq (fun (fun 'a ?) (fun (fun 'a ?) ?))) (b 0)) (l 'a (c T ?))))))",
     ),
     // `ex = (%P. !q. (!x. P x --> q) --> q)`
     (
         Call::Connective(5),
-        "(s (h) (a (a (c eq (fun (fun (fun 'a ?) ?) (fun (fun (fun 'a ?) ?) ?))) (c ex (fun (fun 'a ?) ?))) (l (fun 'a ?) (a (c all (fun (fun ? ?) ?)) (l ? (a (a > (a (c all (fun (fun 'a ?) ?)) (l 'a (a (a > (a (b 2) (b 0))) (b 1))))) (b 0)))))))",
+        "(s (h) (a (a (c eq (fun (fun (fun 'a ?) ?) (fun (fun (fun 'a ?) ?) ?))) \
+         (c ex (fun (fun 'a ?) ?))) (l (fun 'a ?) \
+         (a (c all (fun (fun ? ?) ?)) (l ? \
+         (a (a > (a (c all (fun (fun 'a ?) ?)) (l 'a (a (a > (a (b 2) (b 0))) (b 1))))) \
+         (b 0)))))))",
     ),
     // `or = (%p q. !r. (p --> r) --> (q --> r) --> r)`
     (
         Call::Connective(6),
-        "(s (h) (a (a (c eq (fun (fun ? (fun ? ?)) (fun (fun ? (fun ? ?)) ?))) (c or (fun ? (fun ? ?)))) (l ? (l ? (a (c all (fun (fun ? ?) ?)) (l ? (a (a > (a (a > (b 2)) (b 0))) (a (a > (a (a > (b 1)) (b 0))) (b 0)))))))))",
+        "(s (h) (a (a (c eq (fun (fun ? (fun ? ?)) (fun (fun ? (fun ? ?)) ?))) \
+         (c or (fun ? (fun ? ?)))) (l ? (l ? \
+         (a (c all (fun (fun ? ?) ?)) (l ? \
+         (a (a > (a (a > (b 2)) (b 0))) (a (a > (a (a > (b 1)) (b 0))) (b 0)))))))))",
     ),
     // `F = (!p. p)`
     (

@@ -43,7 +43,8 @@ const NORM: &[(Call<'static>, &str)] = &[
     // no step of eta
     (
         Call::Norm(Premise::Same("(l 'a (a (v f (fun 'a 'b)) (b 0)))")),
-        "(s (h) (a (a (c eq (fun (fun 'a 'b) (fun (fun 'a 'b) ?))) (l 'a (a (v f (fun 'a 'b)) (b 0)))) (l 'a (a (v f (fun 'a 'b)) (b 0)))))",
+        "(s (h) (a (a (c eq (fun (fun 'a 'b) (fun (fun 'a 'b) ?))) \
+         (l 'a (a (v f (fun 'a 'b)) (b 0)))) (l 'a (a (v f (fun 'a 'b)) (b 0)))))",
     ),
 ];
 
@@ -69,7 +70,9 @@ const BETA_NORM: &[(Call<'static>, &str)] = &[
     ),
     (
         Call::BetaNorm("(l 'b (a (l 'a (l 'b (b 1))) (a (v f (fun 'b 'a)) (b 0))))"),
-        "(s (h) (a (a (c eq (fun (fun 'b (fun 'b 'a)) (fun (fun 'b (fun 'b 'a)) ?))) (l 'b (a (l 'a (l 'b (b 1))) (a (v f (fun 'b 'a)) (b 0))))) (l 'b (l 'b (a (v f (fun 'b 'a)) (b 1))))))",
+        "(s (h) (a (a (c eq (fun (fun 'b (fun 'b 'a)) (fun (fun 'b (fun 'b 'a)) ?))) \
+         (l 'b (a (l 'a (l 'b (b 1))) (a (v f (fun 'b 'a)) (b 0))))) \
+         (l 'b (l 'b (a (v f (fun 'b 'a)) (b 1))))))",
     ),
     (
         Call::BetaNorm(
@@ -138,7 +141,10 @@ const REWRITE_AT: &[(Call<'static>, &str)] = &[
             Premise::Given("(a (a = (v x 'a)) (v y 'a))"),
             "(l 'a (l 'b (a (a (v h (fun 'a (fun 'a ?))) (b 1)) (v x 'a))))",
         ),
-        "(s (h (a (a = (v x 'a)) (v y 'a))) (a (a (c eq (fun (fun 'a (fun 'b ?)) (fun (fun 'a (fun 'b ?)) ?))) (l 'a (l 'b (a (a (v h (fun 'a (fun 'a ?))) (b 1)) (v x 'a))))) (l 'a (l 'b (a (a (v h (fun 'a (fun 'a ?))) (b 1)) (v y 'a))))))",
+        "(s (h (a (a = (v x 'a)) (v y 'a))) \
+         (a (a (c eq (fun (fun 'a (fun 'b ?)) (fun (fun 'a (fun 'b ?)) ?))) \
+         (l 'a (l 'b (a (a (v h (fun 'a (fun 'a ?))) (b 1)) (v x 'a))))) \
+         (l 'a (l 'b (a (a (v h (fun 'a (fun 'a ?))) (b 1)) (v y 'a))))))",
     ),
 ];
 

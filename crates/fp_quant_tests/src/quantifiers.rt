@@ -18,7 +18,9 @@ const GEN_ALL: &[(Call<'static>, &str)] = &[
             "(v x 'a)",
             Premise::Same("(l 'a (a (a (v h (fun 'a (fun 'a ?))) (v x 'a)) (b 0)))"),
         ),
-        "(s (h) (a ^ (l 'a (a (a (c eq (fun (fun 'a ?) (fun (fun 'a ?) ?))) (l 'a (a (a (v h (fun 'a (fun 'a ?))) (b 1)) (b 0)))) (l 'a (a (a (v h (fun 'a (fun 'a ?))) (b 1)) (b 0)))))))",
+        "(s (h) (a ^ (l 'a (a (a (c eq (fun (fun 'a ?) (fun (fun 'a ?) ?))) \
+         (l 'a (a (a (v h (fun 'a (fun 'a ?))) (b 1)) (b 0)))) \
+         (l 'a (a (a (v h (fun 'a (fun 'a ?))) (b 1)) (b 0)))))))",
     ),
     // of another type, and of another name
     (
@@ -92,7 +94,8 @@ const SPEC: &[(Call<'static>, &str)] = &[
             ),
             "(v y 'a)",
         ),
-        "(s (h (a ^ (l 'a (a ^ (l 'a (a (a (v h (fun 'a (fun 'a ?))) (b 1)) (b 0))))))) (a ^ (l 'a (a (a (v h (fun 'a (fun 'a ?))) (v y 'a)) (b 0)))))",
+        "(s (h (a ^ (l 'a (a ^ (l 'a (a (a (v h (fun 'a (fun 'a ?))) (b 1)) (b 0))))))) \
+         (a ^ (l 'a (a (a (v h (fun 'a (fun 'a ?))) (v y 'a)) (b 0)))))",
     ),
     (
         Call::Spec(Premise::Given("(a ^ (l 'a (v p ?)))"), "(v y 'a)"),
@@ -512,15 +515,22 @@ fn ext(rt: HostRuntime) -> Result<(), Fail> {
 const SELECT: &[(Call<'static>, &str)] = &[
     (
         Call::Select(Premise::Given("(a % (l 'a (a (v P (fun 'a ?)) (b 0))))")),
-        "(s (h (a % (l 'a (a (v P (fun 'a ?)) (b 0))))) (a (v P (fun 'a ?)) (a (c select (fun (fun 'a ?) 'a)) (l 'a (a (v P (fun 'a ?)) (b 0))))))",
+        "(s (h (a % (l 'a (a (v P (fun 'a ?)) (b 0))))) \
+         (a (v P (fun 'a ?)) (a (c select (fun (fun 'a ?) 'a)) \
+         (l 'a (a (v P (fun 'a ?)) (b 0))))))",
     ),
     (
         Call::Select(Premise::Beside("(v p ?)", "(a % (l 'a (a (v P (fun 'a ?)) (b 0))))")),
-        "(s (h (v p ?) (a % (l 'a (a (v P (fun 'a ?)) (b 0))))) (a (v P (fun 'a ?)) (a (c select (fun (fun 'a ?) 'a)) (l 'a (a (v P (fun 'a ?)) (b 0))))))",
+        "(s (h (v p ?) (a % (l 'a (a (v P (fun 'a ?)) (b 0))))) \
+         (a (v P (fun 'a ?)) (a (c select (fun (fun 'a ?) 'a)) \
+         (l 'a (a (v P (fun 'a ?)) (b 0))))))",
     ),
     (
         Call::Select(Premise::Given("(a % (l 'a (a (a (v h (fun 'a (fun 'a ?))) (b 0)) (b 0))))")),
-        "(s (h (a % (l 'a (a (a (v h (fun 'a (fun 'a ?))) (b 0)) (b 0))))) (a (a (v h (fun 'a (fun 'a ?))) (a (c select (fun (fun 'a ?) 'a)) (l 'a (a (a (v h (fun 'a (fun 'a ?))) (b 0)) (b 0))))) (a (c select (fun (fun 'a ?) 'a)) (l 'a (a (a (v h (fun 'a (fun 'a ?))) (b 0)) (b 0))))))",
+        "(s (h (a % (l 'a (a (a (v h (fun 'a (fun 'a ?))) (b 0)) (b 0))))) \
+         (a (a (v h (fun 'a (fun 'a ?))) (a (c select (fun (fun 'a ?) 'a)) \
+         (l 'a (a (a (v h (fun 'a (fun 'a ?))) (b 0)) (b 0))))) \
+         (a (c select (fun (fun 'a ?) 'a)) (l 'a (a (a (v h (fun 'a (fun 'a ?))) (b 0)) (b 0))))))",
     ),
     (
         Call::Select(Premise::Given("(a % (l 'a (v p ?)))")),

@@ -140,7 +140,8 @@ const REWRITE_INSTANCES: &[(Call<'static>, &str)] = &[
             Premise::Reduced("(a (l 'a (b 0)) (v x 'a))"),
             Premise::Same("(l 'a (l ? (a (l ? (b 0)) (a (v k (fun ? ?)) (b 0)))))"),
         ),
-        "(s (h) (a (a (c eq (fun (fun 'a (fun ? ?)) (fun (fun 'a (fun ? ?)) ?))) (l 'a (l ? (a (v k (fun ? ?)) (b 0))))) (l 'a (l ? (a (v k (fun ? ?)) (b 0))))))",
+        "(s (h) (a (a (c eq (fun (fun 'a (fun ? ?)) (fun (fun 'a (fun ? ?)) ?))) \
+         (l 'a (l ? (a (v k (fun ? ?)) (b 0))))) (l 'a (l ? (a (v k (fun ? ?)) (b 0))))))",
     ),
     (
         Call::Rewrite(
@@ -166,7 +167,8 @@ const REWRITE_INSTANCES: &[(Call<'static>, &str)] = &[
             ),
             Premise::Given("(a (l 'a (a (a (v h (fun 'a (fun 'a ?))) (b 0)) (v y 'a))) (v z 'a))"),
         ),
-        "(s (h (a (l 'a (a (a (v h (fun 'a (fun 'a ?))) (b 0)) (v y 'a))) (v z 'a))) (a (l 'a (a (a (v h (fun 'a (fun 'a ?))) (b 0)) (v y 'a))) (v z 'a)))",
+        "(s (h (a (l 'a (a (a (v h (fun 'a (fun 'a ?))) (b 0)) (v y 'a))) (v z 'a))) \
+         (a (l 'a (a (a (v h (fun 'a (fun 'a ?))) (b 0)) (v y 'a))) (v z 'a)))",
     ),
     // no instance of it that would bind a variable
     (
@@ -206,14 +208,17 @@ const REWRITE_BELOW: &[(Call<'static>, &str)] = &[
             Premise::Given("(a (a ~ (v p ?)) (v q ?))"),
             Premise::Same("(l ? (a (a & (b 0)) (v p ?)))"),
         ),
-        "(s (h (a (a ~ (v p ?)) (v q ?))) (a (a (c eq (fun (fun ? ?) (fun (fun ? ?) ?))) (l ? (a (a & (b 0)) (v q ?)))) (l ? (a (a & (b 0)) (v q ?)))))",
+        "(s (h (a (a ~ (v p ?)) (v q ?))) \
+         (a (a (c eq (fun (fun ? ?) (fun (fun ? ?) ?))) (l ? (a (a & (b 0)) (v q ?)))) \
+         (l ? (a (a & (b 0)) (v q ?)))))",
     ),
     (
         Call::Rewrite(
             Premise::Given("(a (a ~ (a (v P (fun 'a ?)) (v x 'a))) (v p ?))"),
             Premise::Given("(a ^ (l 'a (a (v P (fun 'a ?)) (b 0))))"),
         ),
-        "(s (h (a (a ~ (a (v P (fun 'a ?)) (v x 'a))) (v p ?)) (a ^ (l 'a (a (v P (fun 'a ?)) (b 0))))) (a ^ (l 'a (a (v P (fun 'a ?)) (b 0)))))",
+        "(s (h (a (a ~ (a (v P (fun 'a ?)) (v x 'a))) (v p ?)) \
+         (a ^ (l 'a (a (v P (fun 'a ?)) (b 0))))) (a ^ (l 'a (a (v P (fun 'a ?)) (b 0)))))",
     ),
     (
         Call::Rewrite(
@@ -222,14 +227,18 @@ const REWRITE_BELOW: &[(Call<'static>, &str)] = &[
                 "(a ^ (l 'a (a (a & (a (v P (fun 'a ?)) (v x 'a))) (a (v P (fun 'a ?)) (b 0)))))",
             ),
         ),
-        "(s (h (a (a ~ (a (v P (fun 'a ?)) (v x 'a))) (v p ?)) (a ^ (l 'a (a (a & (a (v P (fun 'a ?)) (v x 'a))) (a (v P (fun 'a ?)) (b 0)))))) (a ^ (l 'a (a (a & (v p ?)) (a (v P (fun 'a ?)) (b 0))))))",
+        "(s (h (a (a ~ (a (v P (fun 'a ?)) (v x 'a))) (v p ?)) \
+         (a ^ (l 'a (a (a & (a (v P (fun 'a ?)) (v x 'a))) (a (v P (fun 'a ?)) (b 0)))))) \
+         (a ^ (l 'a (a (a & (v p ?)) (a (v P (fun 'a ?)) (b 0))))))",
     ),
     (
         Call::Rewrite(
             Premise::Given("(a (a = (v x 'a)) (v y 'a))"),
             Premise::Given("(a ^ (l 'a (a (a (v h (fun 'a (fun 'a ?))) (b 0)) (v x 'a))))"),
         ),
-        "(s (h (a (a = (v x 'a)) (v y 'a)) (a ^ (l 'a (a (a (v h (fun 'a (fun 'a ?))) (b 0)) (v x 'a))))) (a ^ (l 'a (a (a (v h (fun 'a (fun 'a ?))) (b 0)) (v y 'a)))))",
+        "(s (h (a (a = (v x 'a)) (v y 'a)) \
+         (a ^ (l 'a (a (a (v h (fun 'a (fun 'a ?))) (b 0)) (v x 'a))))) \
+         (a ^ (l 'a (a (a (v h (fun 'a (fun 'a ?))) (b 0)) (v y 'a)))))",
     ),
 ];
 

@@ -219,12 +219,14 @@ const BINDERS: &[Row] = &[
     ),
     (
         "(a (a (c eq (fun (fun 'a 'b) (fun (fun 'a 'b) (bool)))) (v f (fun 'a 'b))) (l 'a (a (v f (fun 'a 'b)) (b 0))))",
-        "(a (a (c eq (fun (fun (ind) (bool)) (fun (fun (ind) (bool)) (bool)))) (c q (fun (ind) (bool)))) (l (ind) (a (c q (fun (ind) (bool))) (b 0))))",
+        "(a (a (c eq (fun (fun (ind) (bool)) (fun (fun (ind) (bool)) (bool)))) \
+         (c q (fun (ind) (bool)))) (l (ind) (a (c q (fun (ind) (bool))) (b 0))))",
         Some("(v a (ind));(v b (bool));(v f (fun (ind) (bool))) = (c q (fun (ind) (bool)));"),
     ),
     (
         "(a (a (c eq (fun (fun 'a 'b) (fun (fun 'a 'b) (bool)))) (v f (fun 'a 'b))) (l 'a (a (v f (fun 'a 'b)) (b 0))))",
-        "(a (a (c eq (fun (fun (ind) (bool)) (fun (fun (ind) (bool)) (bool)))) (c q (fun (ind) (bool)))) (l (ind) (a (c k (fun (ind) (bool))) (b 0))))",
+        "(a (a (c eq (fun (fun (ind) (bool)) (fun (fun (ind) (bool)) (bool)))) \
+         (c q (fun (ind) (bool)))) (l (ind) (a (c k (fun (ind) (bool))) (b 0))))",
         None,
     ),
 ];

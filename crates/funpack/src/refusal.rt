@@ -94,7 +94,7 @@ fn head(alloc: Global, file: &str, at: u32, kind: &str) -> Result<String, AllocE
     Ok(line)
 }
 
-// Puts that at the end.
+// Puts the line up to the kind at the end.
 fn push_head(
     alloc: Global,
     text: &mut Vec<u8>,

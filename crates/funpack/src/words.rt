@@ -33,7 +33,7 @@ fn asked_of_run(words: &[String]) -> Option<Words<'_>>
     }
 }
 
-// The words for a file, where its name is one.
+// What is asked of a file, where its name can be one.
 fn asked_of_file(full: bool, file: &str) -> Option<Words<'_>>
     ensures { MatchOption result (is_file_name file.now ≡ false) (λ w. (is_file_name file.now ≡ true) × (w.full ≡ full) × (w.file.now ≡ file.now)) }
 {
