@@ -31,11 +31,12 @@ pub fn run<F: Files, K: Sink>(alloc: Global, words: &[String], files: &mut F, si
     ensures usage { result ≡ 2 → Appends (K.written sink.old) (K.written sink.new) usage_line }
     ensures unopened { asked (map string_bytes words.now) ≡ None → files.new ≡ files.old }
 
-    // A fault is answered only where its count rose. A first part of the text is written then, or nothing.
-    ensures files_fault { result ≡ 3 → (F.faults files.old < F.faults files.new) × (sink.new ≡ sink.old) }
-    ensures sink_fault { result ≡ 4 → (K.faults sink.old < K.faults sink.new)
-        × WritesPart (asked (map string_bytes words.now)) (F.held files.old) (K.written sink.old) (K.written sink.new) }
-    ensures memory { result ≡ 5 → sink.new ≡ sink.old }
+    // A fault is answered exactly where its count rose. Nothing is written then for one of the files, and a first part of the text
+    // for one of the sink.
+    ensures files_fault { result ≡ 3 ↔ (F.faults files.old < F.faults files.new) }
+    ensures sink_fault { result ≡ 4 ↔ (K.faults sink.old < K.faults sink.new) }
+    ensures part { result ≡ 4 → WritesPart (asked (map string_bytes words.now)) (F.held files.old) (K.written sink.old) (K.written sink.new) }
+    ensures unwritten { (result ≡ 3) ⊎ (result ≡ 5) → sink.new ≡ sink.old }
 
     // Without a fault there is no other answer than these and want of memory.
     ensures complete { F.faults files.new ≡ F.faults files.old → K.faults sink.new ≡ K.faults sink.old → (result < 3) ⊎ (result ≡ 5) }
@@ -55,10 +56,10 @@ fn run_file<F: Files, K: Sink>(alloc: Global, words: &Words<'_>, files: &mut F, 
     ensures refused { result ≡ 1 → Writes (Some (words.now.full, words.now.file.now)) (F.held files.old) (K.written sink.old) (K.written sink.new) true }
     ensures quiet { result < 3 → (F.faults files.new ≡ F.faults files.old) × (K.faults sink.new ≡ K.faults sink.old) }
     ensures formed { result ≢ 2 }
-    ensures files_fault { result ≡ 3 → (F.faults files.old < F.faults files.new) × (sink.new ≡ sink.old) }
-    ensures sink_fault { result ≡ 4 → (K.faults sink.old < K.faults sink.new)
-        × WritesPart (Some (words.now.full, words.now.file.now)) (F.held files.old) (K.written sink.old) (K.written sink.new) }
-    ensures memory { result ≡ 5 → sink.new ≡ sink.old }
+    ensures files_fault { result ≡ 3 ↔ (F.faults files.old < F.faults files.new) }
+    ensures sink_fault { result ≡ 4 ↔ (K.faults sink.old < K.faults sink.new) }
+    ensures part { result ≡ 4 → WritesPart (Some (words.now.full, words.now.file.now)) (F.held files.old) (K.written sink.old) (K.written sink.new) }
+    ensures unwritten { (result ≡ 3) ⊎ (result ≡ 5) → sink.new ≡ sink.old }
     ensures complete { F.faults files.new ≡ F.faults files.old → K.faults sink.new ≡ K.faults sink.old → (result < 3) ⊎ (result ≡ 5) }
     ensures range { result ≤ 5 }
 {
@@ -75,7 +76,8 @@ fn finish_report<K: Sink>(sink: &mut K, report: &Report) -> u8
     ensures accepted { result ≡ 0 → (report.now.refused ≡ false) × Appends (K.written sink.old) (K.written sink.new) report.now.text.items }
     ensures refused { result ≡ 1 → (report.now.refused ≡ true) × Appends (K.written sink.old) (K.written sink.new) report.now.text.items }
     ensures quiet { result < 3 → K.faults sink.new ≡ K.faults sink.old }
-    ensures sink_fault { result ≡ 4 → (K.faults sink.old < K.faults sink.new) × AppendsPrefix (K.written sink.old) (K.written sink.new) report.now.text.items }
+    ensures sink_fault { result ≡ 4 ↔ (K.faults sink.old < K.faults sink.new) }
+    ensures part { result ≡ 4 → AppendsPrefix (K.written sink.old) (K.written sink.new) report.now.text.items }
     ensures complete { K.faults sink.new ≡ K.faults sink.old → result < 2 }
     ensures range { (result < 2) ⊎ (result ≡ 4) }
 {

@@ -6,5 +6,5 @@ returns-clause-accepted g c zero = rw c.in-Some.ensures (c.run_file.ensures.acce
 pub returns-clause-refused : goal.returns-clause-refused
 returns-clause-refused g c one = rw c.in-Some.ensures (c.run_file.ensures.refused one)
 
-pub returns-clause-sink_fault : goal.returns-clause-sink_fault
-returns-clause-sink_fault g c four = rw c.in-Some.ensures (c.run_file.ensures.sink_fault four)
+pub returns-clause-part : goal.returns-clause-part
+returns-clause-part g c four = rw c.in-Some.ensures (c.run_file.ensures.part four)
