@@ -3,3 +3,4 @@ pub mod Equations
 pub mod Checked
 pub mod Sets
 pub mod Gives
+pub mod Untested

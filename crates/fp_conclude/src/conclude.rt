@@ -37,8 +37,8 @@ pub fn trans(alloc: Global, first: &Term, second: &Term) -> Result<Term, RuleFau
     Ok(apply_both(alloc, a.equality, a.left, b.right)?)
 }
 
-// The equation of the applications.
-fn applied(
+/// The equation of the applications.
+pub(crate) fn applied(
     alloc: Global,
     ty: &Ty,
     functions: &Equation<'_>,

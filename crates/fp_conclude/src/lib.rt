@@ -8,6 +8,7 @@ mod connectives;
 mod fault;
 mod formula;
 mod hypotheses;
+mod known;
 mod logic;
 mod parts;
 mod substitution;
@@ -23,6 +24,7 @@ pub use formula::{
     quantifier_type, select, select_type, true_constant,
 };
 pub use hypotheses::{all_instances, all_retyped, occurs, occurs_in_any, single, union, without};
+pub use known::{eq_mp_known, mk_comb_known, trans_known};
 pub use logic::{
     apply, apply_both, equality_at, equality_type, equation, predicate_over, truth_type,
 };

@@ -6,3 +6,4 @@ pub mod Later
 pub mod Promised
 pub mod Sound
 pub mod Premises
+pub mod Unchecked

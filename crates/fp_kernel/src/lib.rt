@@ -5,6 +5,7 @@ mod definition;
 mod defs;
 mod fault;
 mod kept;
+mod known;
 mod promises;
 mod rules;
 mod start;

@@ -1,4 +1,7 @@
 ghost use Rattle.std.specs.Prelude.{◌≡◌, ◌≤◌, [], ◌∷◌, IfOk};
+ghost use Rattle.fp_term.specs.Types.{Typ};
+ghost use Rattle.fp_term.specs.Terms.{Tm};
+ghost use Rattle.fp_term.specs.Signatures.{IsWellTyped};
 ghost use Rattle.fp_conclude.specs.Logic.{truth_type, equal};
 ghost use Rattle.fp_conclude.specs.Hypotheses.{IsSet, union, without, all_replaced, all_retyped_terms};
 ghost use Rattle.fp_conclude.specs.Outcomes.{Answers, gives};
@@ -10,6 +13,7 @@ ghost use Rattle.fp_kernel.specs.Derivability.{Derives};
 ghost use Rattle.fp_kernel.specs.Theorems.{promise_union, stands, from_one, from_two, from_both};
 
 use crate::defs::Defs;
+use crate::known::known_type;
 use crate::promises::{copy_promises, promise_union};
 use crate::thm::Thm;
 use fp_conclude::{
@@ -102,6 +106,49 @@ impl Defs {
     {
         let concl = fp_conclude::refl(alloc, self.signature(), term)?;
         Ok(self.plain(alloc, Items::new(alloc), concl)?)
+    }
+
+    /// `t = t`, for a term that is known to be well typed: nothing is checked.
+    pub fn refl_known(&self, alloc: Global, term: &Term) -> Result<Thm, AllocError>
+        requires { (s : Typ) × IsWellTyped (signature_of self.now) term.now s }
+        ensures { IfOk result (λ th. stands self.now [] [] (refl_of (signature_of self.now) term.now) ≡ gives th) }
+    {
+        let ty = known_type(alloc, term)?;
+        let concl = equation(alloc, &ty, term, term)?;
+        self.plain(alloc, Items::new(alloc), concl)
+    }
+
+    /// `s = u` from `s = t` and `t = u`. It has to be known that the rule gives something: nothing is compared.
+    pub fn trans_known(&self, alloc: Global, first: &Thm, second: &Thm) -> Result<Thm, AllocError>
+        requires first_within { Within first.now.defs self.now }
+        requires second_within { Within second.now.defs self.now }
+        requires given { (c : Tm) × (trans_of first.now.concl second.now.concl ≡ gives c) }
+        ensures { IfOk result (λ th. from_both self.now first.now second.now (trans_of first.now.concl second.now.concl) ≡ gives th) }
+    {
+        let concl = fp_conclude::trans_known(alloc, first.concl(), second.concl())?;
+        self.over_both(alloc, first, second, concl)
+    }
+
+    /// `f x = g y` from `f = g` and `x = y`. It has to be known that the rule gives something: nothing is compared.
+    pub fn mk_comb_known(&self, alloc: Global, first: &Thm, second: &Thm) -> Result<Thm, AllocError>
+        requires first_within { Within first.now.defs self.now }
+        requires second_within { Within second.now.defs self.now }
+        requires given { (c : Tm) × (mk_comb_of first.now.concl second.now.concl ≡ gives c) }
+        ensures { IfOk result (λ th. from_both self.now first.now second.now (mk_comb_of first.now.concl second.now.concl) ≡ gives th) }
+    {
+        let concl = fp_conclude::mk_comb_known(alloc, first.concl(), second.concl())?;
+        self.over_both(alloc, first, second, concl)
+    }
+
+    /// `q` from `p = q` and `p`. It has to be known that the rule gives something: nothing is compared.
+    pub fn eq_mp_known(&self, alloc: Global, first: &Thm, second: &Thm) -> Result<Thm, AllocError>
+        requires first_within { Within first.now.defs self.now }
+        requires second_within { Within second.now.defs self.now }
+        requires given { (c : Tm) × (eq_mp_of first.now.concl second.now.concl ≡ gives c) }
+        ensures { IfOk result (λ th. from_both self.now first.now second.now (eq_mp_of first.now.concl second.now.concl) ≡ gives th) }
+    {
+        let concl = fp_conclude::eq_mp_known(first.concl(), second.concl())?;
+        self.over_both(alloc, first, second, concl)
     }
 
     /// `s = u` from `s = t` and `t = u` (TRANS).

@@ -6,7 +6,7 @@ ghost use Rattle.fp_kernel.specs.Start.{start_types, start_constants, start_trut
 use fp_conclude::{
     alpha, binary_truth, equality_type, predicate_over, quantifier_type, select_type, truth_type,
 };
-use fp_term::{Items, Name, Signature, Ty, equality_name, function_name, truth_name};
+use fp_term::{Consts, Items, Name, Signature, Ty, equality_name, function_name, truth_name};
 use std::alloc::{AllocError, Global};
 
 fn add_type(types: &mut Items<(Name, u32)>, name: Name, arity: u32) -> Result<(), AllocError>
@@ -17,7 +17,7 @@ fn add_type(types: &mut Items<(Name, u32)>, name: Name, arity: u32) -> Result<()
 
 fn add_constant(
     alloc: Global,
-    consts: &mut Items<(Name, Ty)>,
+    consts: &mut Consts,
     name: &[u8],
     ty: Ty,
 ) -> Result<(), AllocError>
@@ -39,7 +39,7 @@ fn start_types(alloc: Global) -> Result<Items<(Name, u32)>, AllocError>
 }
 
 // Equality.
-fn add_equality(alloc: Global, consts: &mut Items<(Name, Ty)>) -> Result<(), AllocError>
+fn add_equality(alloc: Global, consts: &mut Consts) -> Result<(), AllocError>
     ensures { IfOk result (λ _. consts.new ≡ consts.old ++ (equality, equality_type alpha) ∷ []) }
 {
     let ty = equality_type(alloc, &alpha(alloc)?)?;
@@ -47,7 +47,7 @@ fn add_equality(alloc: Global, consts: &mut Items<(Name, Ty)>) -> Result<(), All
 }
 
 #[tactic(auto, unfolding(fp_term::specs::Names::is_name))]
-fn add_selection(alloc: Global, consts: &mut Items<(Name, Ty)>) -> Result<(), AllocError>
+fn add_selection(alloc: Global, consts: &mut Consts) -> Result<(), AllocError>
     ensures { IfOk result (λ _. consts.new ≡ consts.old ++ (codes "select", select_type alpha) ∷ []) }
 {
     let ty = select_type(alloc, &alpha(alloc)?)?;
@@ -56,7 +56,7 @@ fn add_selection(alloc: Global, consts: &mut Items<(Name, Ty)>) -> Result<(), Al
 
 // Equality, `select`, and the two truth values.
 #[tactic(auto, unfolding(fp_term::specs::Names::is_name))]
-fn add_truths(alloc: Global, consts: &mut Items<(Name, Ty)>) -> Result<(), AllocError>
+fn add_truths(alloc: Global, consts: &mut Consts) -> Result<(), AllocError>
     ensures { IfOk result (λ _. consts.new ≡ consts.old ++ start_truths) }
 {
     add_equality(alloc, consts)?;
@@ -65,7 +65,7 @@ fn add_truths(alloc: Global, consts: &mut Items<(Name, Ty)>) -> Result<(), Alloc
     add_constant(alloc, consts, b"F", truth_type(alloc)?)
 }
 
-fn add_binary(alloc: Global, consts: &mut Items<(Name, Ty)>, name: &[u8]) -> Result<(), AllocError>
+fn add_binary(alloc: Global, consts: &mut Consts, name: &[u8]) -> Result<(), AllocError>
     requires { IsTrue (is_name name.now) }
     ensures { IfOk result (λ _. consts.new ≡ consts.old ++ (name.now, binary_type truth_type truth_type) ∷ []) }
 {
@@ -73,7 +73,7 @@ fn add_binary(alloc: Global, consts: &mut Items<(Name, Ty)>, name: &[u8]) -> Res
 }
 
 #[tactic(auto, unfolding(fp_term::specs::Names::is_name))]
-fn add_connectives(alloc: Global, consts: &mut Items<(Name, Ty)>) -> Result<(), AllocError>
+fn add_connectives(alloc: Global, consts: &mut Consts) -> Result<(), AllocError>
     ensures { IfOk result (λ _. consts.new ≡ consts.old ++ start_connectives) }
 {
     add_binary(alloc, consts, b"and")?;
@@ -85,7 +85,7 @@ fn add_connectives(alloc: Global, consts: &mut Items<(Name, Ty)>) -> Result<(), 
 
 fn add_quantifier(
     alloc: Global,
-    consts: &mut Items<(Name, Ty)>,
+    consts: &mut Consts,
     name: &[u8],
 ) -> Result<(), AllocError>
     requires { IsTrue (is_name name.now) }
@@ -96,17 +96,17 @@ fn add_quantifier(
 }
 
 #[tactic(auto, unfolding(fp_term::specs::Names::is_name))]
-fn add_quantifiers(alloc: Global, consts: &mut Items<(Name, Ty)>) -> Result<(), AllocError>
+fn add_quantifiers(alloc: Global, consts: &mut Consts) -> Result<(), AllocError>
     ensures { IfOk result (λ _. consts.new ≡ consts.old ++ start_quantifiers) }
 {
     add_quantifier(alloc, consts, b"all")?;
     add_quantifier(alloc, consts, b"ex")
 }
 
-fn start_constants(alloc: Global) -> Result<Items<(Name, Ty)>, AllocError>
+fn start_constants(alloc: Global) -> Result<Consts, AllocError>
     ensures { IfOk result (λ consts. consts ≡ start_constants) }
 {
-    let mut consts = Items::new(alloc);
+    let mut consts = Consts::new(alloc)?;
     add_truths(alloc, &mut consts)?;
     add_connectives(alloc, &mut consts)?;
     add_quantifiers(alloc, &mut consts)?;

@@ -1,4 +1,7 @@
 pub mod Equal
+pub mod Apart
+pub mod Indexed
+pub mod Unchanged
 pub mod Choices
 pub mod Search
 pub mod Instances

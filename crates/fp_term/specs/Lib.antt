@@ -2,6 +2,8 @@ pub mod Names
 pub mod Types
 pub mod Terms
 pub mod Codes
+pub mod Index
+pub mod IndexView
 pub mod TyView
 pub mod TermView
 pub mod Typing

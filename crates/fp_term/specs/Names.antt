@@ -1,5 +1,5 @@
 -- The form of a name, and the names that the logic itself has.
-use Rattle.std.specs.Prelude.{ℕ, Bool, not, ◌&&◌, ◌||◌, ◌==◌, nat_lt, List, length, slice_index, codes}
+use Rattle.std.specs.Prelude.{ℕ, ◌+◌, ◌*◌, ◌%◌, Bool, not, ◌&&◌, ◌||◌, ◌==◌, nat_lt, List, [], ◌∷◌, length, slice_index, codes}
 use Rattle.std.specs.List.{list_all}
 use Rattle.std.specs.Char.{is_ascii_alphabetic, is_ascii_alphanumeric}
 
@@ -25,3 +25,15 @@ truth = codes "bool"
 
 abbrev pub equality : List ℕ
 equality = codes "eq"
+
+-- a number below 2 ^ 32 in which unequal names mostly differ
+abbrev pub hashed_from : ℕ → List ℕ → ℕ
+hashed_from hash [] = hash
+hashed_from hash (byte ∷ bytes) = hashed_from ((hash * 131 + byte) % 4294967296) bytes
+
+abbrev pub name_hash : List ℕ → ℕ
+name_hash bytes = hashed_from 1 bytes
+
+-- the same for what has two parts, by those of the parts
+abbrev pub mixed : ℕ → ℕ → ℕ → ℕ
+mixed kind a b = (a * 2654435761 + b * 40503 + kind) % 4294967296

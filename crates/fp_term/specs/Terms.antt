@@ -1,7 +1,8 @@
 -- Terms of higher-order logic as data.
-use Rattle.std.specs.Prelude.{◌≡◌, ◌≤◌, ℕ, ◌+◌, max, Bool, false, ◌&&◌, ◌==◌, if◌then◌else◌, List, [], ◌∷◌, Option, Some, None}
+use Rattle.std.specs.Prelude.{◌≡◌, ◌≤◌, ℕ, ◌+◌, ◌-◌, max, Bool, true, false, ◌&&◌, ◌||◌, ◌==◌, if◌then◌else◌, List, [], ◌∷◌, Option, Some, None}
 use Rattle.std.specs.Str.{bytes_eq}
-use Rattle.fp_term.specs.Types.{Typ, type_eq, retyped}
+use Rattle.fp_term.specs.Names.{name_hash, mixed}
+use Rattle.fp_term.specs.Types.{Typ, type_eq, type_hash, is_polymorphic, retyped}
 
 pub data Tm : Type 0 where
   bound : ℕ → Tm
@@ -30,6 +31,45 @@ pub record Counts (height size : ℕ) (t : Tm) : Type 0 where
   pub size_is : size ≡ size_of t
   pub low : height ≤ 4000
   pub small : size ≤ 67108864
+
+-- a number below 2 ^ 32 in which unequal terms mostly differ
+abbrev pub term_hash : Tm → ℕ
+term_hash (bound n) = mixed 5 n 0
+term_hash (free a s) = mixed 6 (name_hash a) (type_hash s)
+term_hash (constant a s) = mixed 7 (name_hash a) (type_hash s)
+term_hash (app f x) = mixed 8 (term_hash f) (term_hash x)
+term_hash (abs s x) = mixed 9 (type_hash s) (term_hash x)
+
+-- how many abstractions around the term bind each of its numbers
+abbrev pub loose_of : Tm → ℕ
+loose_of (bound n) = n + 1
+loose_of (free a s) = 0
+loose_of (constant a s) = 0
+loose_of (app f x) = max (loose_of f) (loose_of x)
+loose_of (abs s x) = loose_of x - 1
+
+-- has the term a free variable?
+abbrev pub is_open : Tm → Bool
+is_open (bound n) = false
+is_open (free a s) = true
+is_open (constant a s) = false
+is_open (app f x) = is_open f || is_open x
+is_open (abs s x) = is_open x
+
+-- has it a type variable?
+abbrev pub has_type_variables : Tm → Bool
+has_type_variables (bound n) = false
+has_type_variables (free a s) = is_polymorphic s
+has_type_variables (constant a s) = is_polymorphic s
+has_type_variables (app f x) = has_type_variables f || has_type_variables x
+has_type_variables (abs s x) = is_polymorphic s || has_type_variables x
+
+-- what is known of a term without a walk
+pub record Marked (hash loose : ℕ) (variables polymorphic : Bool) (t : Tm) : Type 0 where
+  pub hash_is : hash ≡ term_hash t
+  pub loose_is : loose ≡ loose_of t
+  pub variables_is : variables ≡ is_open t
+  pub polymorphic_is : polymorphic ≡ has_type_variables t
 
 abbrev pub term_eq : Tm → Tm → Bool
 term_eq (bound n) (bound m) = n == m

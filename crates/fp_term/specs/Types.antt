@@ -1,7 +1,8 @@
 -- Types of higher-order logic as data.
-use Rattle.std.specs.Prelude.{◌≡◌, ◌≤◌, ℕ, ◌+◌, max, Bool, true, false, ◌&&◌, if◌then◌else◌, List, [], ◌∷◌, ◌++◌, Option, Some, None, is_some}
+use Rattle.std.specs.Prelude.{◌≡◌, ◌≤◌, ℕ, ◌+◌, max, Bool, true, false, ◌&&◌, ◌||◌, if◌then◌else◌, List, [], ◌∷◌, ◌++◌, Option, Some, None, is_some}
 use Rattle.std.specs.Option.{option_and_then}
 use Rattle.std.specs.Str.{bytes_eq}
+use Rattle.fp_term.specs.Names.{name_hash, mixed}
 
 mutual
   pub data Typ : Type 0 where
@@ -57,6 +58,35 @@ pub record TypesCounts (height size : ℕ) (ts : Typs) : Type 0 where
   pub size_is : size ≡ types_size ts
   pub low : height ≤ 1000
   pub small : size ≤ 1048576
+
+-- a number below 2 ^ 32 in which unequal types mostly differ
+abbrev mutual
+  pub type_hash : Typ → ℕ
+  type_hash (variable name) = mixed 1 (name_hash name) 0
+  type_hash (applied name args) = mixed 2 (name_hash name) (types_hash args)
+
+  pub types_hash : Typs → ℕ
+  types_hash none = 3
+  types_hash (more first rest) = mixed 4 (type_hash first) (types_hash rest)
+
+-- does a type variable occur?
+abbrev mutual
+  pub is_polymorphic : Typ → Bool
+  is_polymorphic (variable name) = true
+  is_polymorphic (applied name args) = are_polymorphic args
+
+  pub are_polymorphic : Typs → Bool
+  are_polymorphic none = false
+  are_polymorphic (more first rest) = is_polymorphic first || are_polymorphic rest
+
+-- what is known of a type without a walk
+pub record TypeMarks (hash : ℕ) (polymorphic : Bool) (t : Typ) : Type 0 where
+  pub hash_is : hash ≡ type_hash t
+  pub polymorphic_is : polymorphic ≡ is_polymorphic t
+
+pub record TypesMarks (hash : ℕ) (polymorphic : Bool) (ts : Typs) : Type 0 where
+  pub hash_is : hash ≡ types_hash ts
+  pub polymorphic_is : polymorphic ≡ are_polymorphic ts
 
 abbrev pub count : Typs → ℕ
 count none = 0

@@ -1,6 +1,8 @@
 //! Names, types, terms, statements and signatures of higher-order logic.
 #![tactic(auto)]
 
+mod consts;
+mod index;
 mod items;
 mod matching;
 mod name;
@@ -13,6 +15,7 @@ mod ty;
 mod typing;
 mod variables;
 
+pub use consts::Consts;
 pub use items::Items;
 pub use matching::match_ty;
 pub use name::{Name, equality_name, function_name, truth_name};

@@ -1,7 +1,7 @@
-ghost use Rattle.std.specs.Prelude.{◌≡◌, ◌↔◌, true, false, IsTrue, IfOk, OnOk, OnErr, MatchResult, MatchOption};
+ghost use Rattle.std.specs.Prelude.{◌≡◌, ◌↔◌, ◌+◌, ◌*◌, ◌%◌, true, false, IsTrue, IfOk, OnOk, OnErr, MatchResult, MatchOption};
 ghost use Rattle.std.specs.List.{list_all};
 ghost use Rattle.std.specs.Str.{bytes_eq};
-ghost use Rattle.fp_term.specs.Names.{is_name, is_start_byte, is_part_byte, function, truth, equality};
+ghost use Rattle.fp_term.specs.Names.{is_name, is_start_byte, is_part_byte, function, truth, equality, name_hash, mixed};
 
 use std::alloc::{AllocError, Global};
 use std::marker::Model;
@@ -9,25 +9,31 @@ use std::sync::Arc;
 
 /// A text of 1 to 160 bytes: a letter or `_`, then letters, digits, `_` and `'`. A copy shares the text.
 pub struct Name {
-    bytes: Arc<Vec<u8>>,
+    cell: Arc<Cell>,
+}
+
+#[derive(Drop)]
+struct Cell {
+    hash: u32,
+    bytes: Vec<u8>,
 }
 
 impl Drop for Name {
     fn drop(self) {
-        let Name { bytes } = self;
-        drop(bytes);
+        let Name { cell } = self;
+        drop(cell);
     }
 }
 
 impl Model for Name {
-    ghost use Rattle.std.specs.Prelude.{List, ℕ, IsTrue};
-    ghost use Rattle.fp_term.specs.Names.{is_name, is_start_byte, is_part_byte, function, truth, equality};
+    ghost use Rattle.std.specs.Prelude.{◌≡◌, List, ℕ, IsTrue};
+    ghost use Rattle.fp_term.specs.Names.{is_name, is_start_byte, is_part_byte, function, truth, equality, name_hash};
 
     ghost Value = { List ℕ };
 
-    ghost view = { λ n. n.bytes.value.items };
+    ghost view = { λ n. n.cell.value.bytes.items };
 
-    ghost invariant = { λ n. IsTrue (is_name n.bytes.value.items) };
+    ghost invariant = { λ n. IsTrue (is_name n.cell.value.bytes.items) × (n.cell.value.hash ≡ name_hash n.cell.value.bytes.items) };
 }
 
 fn is_start(byte: u8) -> bool
@@ -55,6 +61,31 @@ fn has_form(bytes: &[u8]) -> bool
     !bytes.is_empty() && bytes.len() < 161 && is_start(bytes[0]) && all_parts(bytes)
 }
 
+// The hash of a longer text, from that of the text before the byte.
+fn hashed_on(hash: u32, byte: u8) -> u32
+    ensures { result ≡ (hash * 131 + byte) % 4294967296 }
+{
+    ((u64::from(hash) * 131 + u64::from(byte)) % 4294967296) as u32
+}
+
+fn hash_of(bytes: &[u8]) -> u32
+    ensures { result ≡ name_hash bytes.now }
+{
+    let mut hash = 1;
+    for byte in bytes {
+        hash = hashed_on(hash, *byte);
+    }
+    hash
+}
+
+/// A number in which unequal values with two parts mostly differ, by those of the parts.
+pub(crate) fn mixed_hash(kind: u32, a: u32, b: u32) -> u32
+    ensures { result ≡ mixed kind a b }
+{
+    let sum = u64::from(a) * 2654435761 + u64::from(b) * 40503 + u64::from(kind);
+    (sum % 4294967296) as u32
+}
+
 impl Name {
     /// The name of these bytes, if they have its form.
     pub fn new(alloc: Global, bytes: &[u8]) -> Result<Option<Name>, AllocError>
@@ -72,8 +103,9 @@ impl Name {
         ensures { IfOk result (λ n. n ≡ bytes.now) }
     {
         let bytes = Vec::from_slice(alloc, bytes)?;
+        let hash = hash_of(bytes.as_slice());
         Ok(Name {
-            bytes: Arc::new(alloc, bytes)?,
+            cell: Arc::new(alloc, Cell { hash, bytes })?,
         })
     }
 
@@ -81,7 +113,13 @@ impl Name {
         ensures value { result.now ≡ self.now }
         ensures form { is_name self.now ≡ true }
     {
-        self.bytes.as_slice()
+        self.cell.bytes.as_slice()
+    }
+
+    pub(crate) fn hash(&self) -> u32
+        ensures { result ≡ name_hash self.now }
+    {
+        self.cell.hash
     }
 
     /// An equal name.
@@ -89,32 +127,34 @@ impl Name {
         ensures { IfOk result (λ n. n ≡ self.now) }
     {
         Ok(Name {
-            bytes: Arc::try_clone(&self.bytes)?,
+            cell: Arc::try_clone(&self.cell)?,
         })
     }
 
     pub fn is_equality(&self) -> bool
         ensures { result ≡ bytes_eq self.now equality }
     {
-        self.bytes.as_slice() == b"eq".as_slice()
+        self.cell.bytes.as_slice() == b"eq".as_slice()
     }
 
     pub fn is_function(&self) -> bool
         ensures { result ≡ bytes_eq self.now function }
     {
-        self.bytes.as_slice() == b"fun".as_slice()
+        self.cell.bytes.as_slice() == b"fun".as_slice()
     }
 
     pub fn is_truth(&self) -> bool
         ensures { result ≡ bytes_eq self.now truth }
     {
-        self.bytes.as_slice() == b"bool".as_slice()
+        self.cell.bytes.as_slice() == b"bool".as_slice()
     }
 
+    #[tactic(auto, using(crate::proofs::Apart::names_apart))]
     pub fn equals(&self, other: &Name) -> bool
         ensures { result ≡ bytes_eq self.now other.now }
     {
-        self.bytes.as_slice() == other.bytes.as_slice()
+        self.cell.hash == other.cell.hash
+            && self.cell.bytes.as_slice() == other.cell.bytes.as_slice()
     }
 }
 

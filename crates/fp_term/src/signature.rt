@@ -2,8 +2,9 @@ ghost use Rattle.std.specs.Prelude.{◌≡◌, ◌==◌, None, IfOk, MatchOption
 ghost use Rattle.std.specs.Option.{option_copied};
 ghost use Rattle.fp_term.specs.Types.{count, found_type, is_instance};
 
+use crate::consts::Consts;
 use crate::items::Items;
-use crate::matching::{find_type, match_ty};
+use crate::matching::match_ty;
 use crate::name::Name;
 use crate::term::{Node, Term};
 use crate::ty::{Ty, TyNode, Tys, TysNode};
@@ -13,7 +14,7 @@ use std::alloc::{AllocError, Global};
 #[derive(Drop)]
 pub struct Signature {
     pub types: Items<(Name, u32)>,
-    pub consts: Items<(Name, Ty)>,
+    pub consts: Consts,
 }
 
 fn is_count(tys: &Tys, number: u32) -> bool
@@ -41,16 +42,6 @@ fn copy_arities(alloc: Global, pairs: &[(Name, u32)]) -> Result<Items<(Name, u32
     Ok(copies)
 }
 
-fn copy_constants(alloc: Global, pairs: &[(Name, Ty)]) -> Result<Items<(Name, Ty)>, AllocError>
-    ensures { IfOk result (λ copies. copies ≡ pairs.now) }
-{
-    let mut copies = Items::new(alloc);
-    for pair in pairs {
-        copies.push((pair.0.copy()?, pair.1.copy()?))?;
-    }
-    Ok(copies)
-}
-
 impl Signature {
     ghost use Rattle.fp_term.specs.Signatures.{arity_of, has_count, has_instance, unknown_in, unknown_in_type, unknown_in_types, IsType, IsOver};
 
@@ -60,7 +51,7 @@ impl Signature {
     {
         Ok(Signature {
             types: copy_arities(alloc, self.types.as_slice())?,
-            consts: copy_constants(alloc, self.consts.as_slice())?,
+            consts: self.consts.copy(alloc)?,
         })
     }
 
@@ -80,7 +71,7 @@ impl Signature {
     pub fn const_type(&self, name: &Name) -> Option<&Ty>
         ensures { option_copied result ≡ found_type name.now self.now.consts }
     {
-        find_type(name, self.consts.as_slice())
+        self.consts.find(name)
     }
 
     fn takes(&self, name: &Name, args: &Tys) -> bool

@@ -1,12 +1,21 @@
-ghost use Rattle.std.specs.Prelude.{◌≡◌, ◌≤◌, ◌+◌, ◌↔◌, max, IsTrue, IfOk};
-ghost use Rattle.fp_term.specs.Terms.{Tm, bound, free, constant, app, abs, term_eq, height_of, size_of, Counts};
+ghost use Rattle.std.specs.Prelude.{◌≡◌, ◌≤◌, ◌+◌, ◌-◌, ◌↔◌, ◌||◌, max, true, false, IsTrue, IfOk};
+ghost use Rattle.fp_term.specs.Terms.{Tm, bound, free, constant, app, abs, term_eq, height_of, size_of, Counts, term_hash, loose_of, is_open, has_type_variables, Marked};
 ghost use Rattle.fp_term.specs.TermView.{seen};
 
-use crate::name::Name;
+use crate::name::{Name, mixed_hash};
 use crate::ty::Ty;
 use std::alloc::{AllocError, Global};
 use std::marker::Model;
 use std::sync::Arc;
+
+// What is known of a term without a walk.
+#[derive(Clone, Copy)]
+struct Marks {
+    hash: u32,
+    loose: u64,
+    variables: bool,
+    polymorphic: bool,
+}
 
 /// A term. A copy shares its parts.
 #[cycle(term)]
@@ -27,6 +36,7 @@ impl Drop for Term {
 struct Cell {
     height: u32,
     size: u32,
+    marks: Marks,
     node: Node,
 }
 
@@ -42,7 +52,7 @@ pub enum Node {
 }
 
 impl Model for Term {
-    ghost use Rattle.fp_term.specs.Terms.{Tm, size_of, Counts};
+    ghost use Rattle.fp_term.specs.Terms.{Tm, size_of, Counts, Marked};
     ghost use Rattle.fp_term.specs.Codes.{coded_term};
 
     ghost Value = { Tm };
@@ -53,7 +63,7 @@ impl Model for Term {
 
     ghost view = { λ t. seen t.cell.value.node };
 
-    ghost invariant = { λ t. Counts t.cell.value.height t.cell.value.size (seen t.cell.value.node) };
+    ghost invariant = { λ t. Counts t.cell.value.height t.cell.value.size (seen t.cell.value.node) × Marked t.cell.value.marks.hash t.cell.value.marks.loose t.cell.value.marks.variables t.cell.value.marks.polymorphic (seen t.cell.value.node) };
 
     ghost size = { size_of };
 
@@ -92,31 +102,91 @@ impl Term {
         self.cell.size
     }
 
-    fn make(alloc: Global, height: u32, size: u32, node: Node) -> Result<Term, AllocError>
-        requires { Counts height size (seen node) }
+    fn hash(&self) -> u32
+        ensures { result ≡ term_hash self.now }
+    {
+        self.cell.marks.hash
+    }
+
+    /// How many abstractions around the term bind each of its numbers.
+    pub fn loose(&self) -> u64
+        ensures { result ≡ loose_of self.now }
+    {
+        self.cell.marks.loose
+    }
+
+    /// Has the term a free variable?
+    pub fn is_open(&self) -> bool
+        ensures { result ≡ is_open self.now }
+    {
+        self.cell.marks.variables
+    }
+
+    /// Has the term a type variable?
+    pub fn is_polymorphic(&self) -> bool
+        ensures { result ≡ has_type_variables self.now }
+    {
+        self.cell.marks.polymorphic
+    }
+
+    fn make(
+        alloc: Global,
+        height: u32,
+        size: u32,
+        marks: Marks,
+        node: Node,
+    ) -> Result<Term, AllocError>
+        requires counted { Counts height size (seen node) }
+        requires marked { Marked marks.hash marks.loose marks.variables marks.polymorphic (seen node) }
         ensures { IfOk result (λ t. t ≡ seen node) }
     {
         Ok(Term {
-            cell: Arc::new(alloc, Cell { height, size, node })?,
+            cell: Arc::new(
+                alloc,
+                Cell {
+                    height,
+                    size,
+                    marks,
+                    node,
+                },
+            )?,
         })
     }
 
     pub fn bound(alloc: Global, number: u32) -> Result<Term, AllocError>
         ensures { IfOk result (λ t. t ≡ bound number) }
     {
-        Term::make(alloc, 1, 1, Node::Bound(number))
+        let marks = Marks {
+            hash: mixed_hash(5, number, 0),
+            loose: u64::from(number) + 1,
+            variables: false,
+            polymorphic: false,
+        };
+        Term::make(alloc, 1, 1, marks, Node::Bound(number))
     }
 
     pub fn free(alloc: Global, name: Name, ty: Ty) -> Result<Term, AllocError>
         ensures { IfOk result (λ t. t ≡ free name ty) }
     {
-        Term::make(alloc, 1, 1, Node::Free { name, ty })
+        let marks = Marks {
+            hash: mixed_hash(6, name.hash(), ty.hash()),
+            loose: 0,
+            variables: true,
+            polymorphic: ty.is_polymorphic(),
+        };
+        Term::make(alloc, 1, 1, marks, Node::Free { name, ty })
     }
 
     pub fn constant(alloc: Global, name: Name, ty: Ty) -> Result<Term, AllocError>
         ensures { IfOk result (λ t. t ≡ constant name ty) }
     {
-        Term::make(alloc, 1, 1, Node::Const { name, ty })
+        let marks = Marks {
+            hash: mixed_hash(7, name.hash(), ty.hash()),
+            loose: 0,
+            variables: false,
+            polymorphic: ty.is_polymorphic(),
+        };
+        Term::make(alloc, 1, 1, marks, Node::Const { name, ty })
     }
 
     /// The application, if that isn't too large.
@@ -128,7 +198,13 @@ impl Term {
         if height > 4000 || size > 67108864 {
             return Err(AllocError);
         }
-        Term::make(alloc, height, size, Node::App { fun, arg })
+        let marks = Marks {
+            hash: mixed_hash(8, fun.hash(), arg.hash()),
+            loose: fun.loose().max(arg.loose()),
+            variables: fun.is_open() || arg.is_open(),
+            polymorphic: fun.is_polymorphic() || arg.is_polymorphic(),
+        };
+        Term::make(alloc, height, size, marks, Node::App { fun, arg })
     }
 
     /// The abstraction, if that isn't too large.
@@ -140,7 +216,13 @@ impl Term {
         if height > 4000 || size > 67108864 {
             return Err(AllocError);
         }
-        Term::make(alloc, height, size, Node::Abs { ty, body })
+        let marks = Marks {
+            hash: mixed_hash(9, ty.hash(), body.hash()),
+            loose: body.loose().saturating_sub(1),
+            variables: body.is_open(),
+            polymorphic: ty.is_polymorphic() || body.is_polymorphic(),
+        };
+        Term::make(alloc, height, size, marks, Node::Abs { ty, body })
     }
 }
 
@@ -149,6 +231,17 @@ pub fn same(a: &Term, b: &Term) -> bool
     ensures value { result ≡ term_eq a.now b.now }
     ensures equal { IsTrue result ↔ (a.now ≡ b.now) }
 {
+    are_equal(a, b)
+}
+
+// By their hashes first: terms with one hash mostly are equal, so the walk looks at no other.
+#[tactic(auto, using(crate::proofs::Apart::terms_apart))]
+fn are_equal(a: &Term, b: &Term) -> bool
+    ensures { result ≡ term_eq a.now b.now }
+{
+    if a.hash() != b.hash() {
+        return false;
+    }
     are_same(a, b)
 }
 
@@ -161,11 +254,11 @@ fn are_same(a: &Term, b: &Term) -> bool
             _ => false,
         },
         Node::Free { name: m, ty: s } => match b.node() {
-            Node::Free { name: n, ty: t } => m.equals(n) && s.equals(t),
+            Node::Free { name: n, ty: t } => m.equals(n) && s.is_same(t),
             _ => false,
         },
         Node::Const { name: m, ty: s } => match b.node() {
-            Node::Const { name: n, ty: t } => m.equals(n) && s.equals(t),
+            Node::Const { name: n, ty: t } => m.equals(n) && s.is_same(t),
             _ => false,
         },
         Node::App { fun: f, arg: x } => match b.node() {
@@ -173,7 +266,7 @@ fn are_same(a: &Term, b: &Term) -> bool
             _ => false,
         },
         Node::Abs { ty: s, body: x } => match b.node() {
-            Node::Abs { ty: t, body: y } => s.equals(t) && are_same(x, y),
+            Node::Abs { ty: t, body: y } => s.is_same(t) && are_same(x, y),
             _ => false,
         },
     }
