@@ -1,0 +1,4 @@
+pub mod Orders
+pub mod Matrix
+pub mod Greedy
+pub mod Grid
