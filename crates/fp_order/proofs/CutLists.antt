@@ -1,11 +1,10 @@
 -- Lists cut to their first elements, and the columns of a grid.
-use Rattle.std.proofs.Common.{◌≡◌, ◌⊎◌, ◌<◌, ◌≤◌, ◌+◌, ◌-◌, ℕ, zero, suc, List, [], ◌∷◌, ◌++◌, map, take, drop, length, get_or, refl, arith, inl, inr, sym, ◌∙◌, ap, subst, append_assoc, append-nil, length-append, add-one}
+use Rattle.std.proofs.Common.{◌≡◌, ◌<◌, ◌≤◌, ◌+◌, ◌-◌, ℕ, zero, suc, List, [], ◌∷◌, ◌++◌, map, take, drop, length, get_or, refl, arith, sym, ◌∙◌, ap, append_assoc, length-append, add-one}
 use Rattle.std.proofs.Math.Seq.{take-suc, drop-cons}
 use Rattle.std.proofs.lemmas.List.{map-append}
 use Rattle.std.proofs.lemmas.List.Elements.{All-nil, All-cons, All-append, All-map, All-take, All-weaker}
 use Rattle.std.specs.List.{All}
-use Rattle.std.proofs.lemmas.Bool.{cases_lt}
-use Rattle.fp_order.specs.Grid.{prefixed, choices, columns_of}
+use Rattle.fp_order.specs.Grid.{prefixed, choices, columns_of, IsColumn}
 
 pub take_short : {A : Type 0} (n : ℕ) (xs : List A) → length xs ≤ n → take n xs ≡ xs
 take_short zero [] h = refl
@@ -100,16 +99,22 @@ column_more functions i out new l inv s =
     let inv2 : out ≡ columns_of (drop (suc j) functions) = rw b at inv in
     rw (a, e) (s ∙ (ap (λ (t : List (List ℕ)). take 256 (prefixed (get_or functions j 0) t)) inv2 ∙ prefixed_cut 256 (get_or functions j 0) (choices (drop (suc j) functions))))
 
-prefixed_len : (n k : ℕ) (lists : List (List ℕ)) → All (λ c. length c ≡ k) lists → All (λ c. length c ≡ suc k) (prefixed n lists)
-prefixed_len zero k lists h = All-nil (λ c. length c ≡ suc k)
-prefixed_len (suc n) k lists h =
-    All-append (λ (c : List ℕ). length c ≡ suc k) (prefixed n lists) (map (λ (xs : List ℕ). n ∷ xs) lists) (prefixed_len n k lists h)
-    (All-map (λ (c : List ℕ). length c ≡ suc k) (λ (xs : List ℕ). n ∷ xs) lists (All-weaker (λ (c : List ℕ). length c ≡ k) (λ (c : List ℕ). suc (length c) ≡ suc k) (λ c s. omega (arith, s)) lists h))
+prefixed_columns : (m n : ℕ) (functions : List ℕ) (lists : List (List ℕ)) → n ≤ m → All (IsColumn functions) lists → All (IsColumn (m ∷ functions)) (prefixed n lists)
+prefixed_columns m zero functions lists l h = All-nil (IsColumn (m ∷ functions))
+prefixed_columns m (suc n) functions lists l h =
+    All-append (IsColumn (m ∷ functions)) (prefixed n lists) (map (λ (xs : List ℕ). n ∷ xs) lists) (prefixed_columns m n functions lists (omega arith) h)
+    (All-map (IsColumn (m ∷ functions)) (λ (xs : List ℕ). n ∷ xs) lists (All-weaker (IsColumn functions) (λ (c : List ℕ). IsColumn (m ∷ functions) (n ∷ c)) more lists h)) where
+      first : (c : List ℕ) → IsColumn functions c → (f : ℕ) → f < suc (length functions) → get_or (n ∷ c) f 0 < get_or (m ∷ functions) f 0
+      first c s zero k = omega arith
+      first c s (suc f) k = s.below f (omega arith)
 
-choices_len : (functions : List ℕ) → All (λ c. length c ≡ length functions) (choices functions)
-choices_len [] = All-cons (λ (c : List ℕ). length c ≡ 0) [] [] refl (All-nil (λ (c : List ℕ). length c ≡ 0))
-choices_len (n ∷ ns) = prefixed_len n (length ns) (choices ns) (choices_len ns)
+      more : (c : List ℕ) → IsColumn functions c → IsColumn (m ∷ functions) (n ∷ c)
+      more c s = record { len = omega (arith, s.len); below = first c s }
 
--- each column has one measure per function
-pub columns_len : (functions : List ℕ) → All (λ c. length c ≡ length functions) (columns_of functions)
-columns_len functions = All-take (λ (c : List ℕ). length c ≡ length functions) 256 (choices functions) (choices_len functions)
+choices_columns : (functions : List ℕ) → All (IsColumn functions) (choices functions)
+choices_columns [] = All-cons (IsColumn []) [] [] (record { len = refl; below = λ f k. absurd (omega arith) }) (All-nil (IsColumn []))
+choices_columns (n ∷ ns) = prefixed_columns n n ns (choices ns) (omega arith) (choices_columns ns)
+
+-- each column is one of the functions
+pub columns_fit : (functions : List ℕ) → All (IsColumn functions) (columns_of functions)
+columns_fit functions = All-take (IsColumn functions) 256 (choices functions) (choices_columns functions)

@@ -1,12 +1,12 @@
 -- There is a best order for finitely many rows, and what its front and its rest are.
-use Rattle.std.proofs.Common.{◌≡◌, ◌⊎◌, ◌<◌, ◌≤◌, ◌+◌, ℕ, zero, suc, List, [], ◌∷◌, ◌++◌, length, get_or, refl, arith, inl, inr, sym, ◌∙◌, ap, subst}
+use Rattle.std.proofs.Common.{◌≡◌, ◌⊎◌, ◌<◌, ◌≤◌, ℕ, zero, suc, List, [], ◌∷◌, refl, arith, inl, inr, sym, subst}
 use Rattle.std.proofs.lemmas.Bool.{cases_lt}
 use Rattle.fp_order.specs.declared.entry.Entry.{Entry}
 use Rattle.fp_order.specs.declared.entry.Entry.TheVariants.{Less, Leq, Unknown}
-use Rattle.fp_order.specs.Orders.{IsDecidedAt, IsDecided, IsKept, IsPartial, IsIrredundant, IsOver, DecidesMost, IsUpTo, IsChoice, IsBest}
+use Rattle.fp_order.specs.Orders.{IsBest}
 use Rattle.fp_order.specs.Greedy.{Fits, IsNext, NoneFits}
-use Rattle.fp_order.proofs.Cons.{Rest, less≢leq}
-use Rattle.fp_order.proofs.Best.{best_end, best_step, best_rows, best_unique, choice_rest, choice_more, front_fits}
+use Rattle.fp_order.proofs.Cons.{Rest}
+use Rattle.fp_order.proofs.Best.{best_end, best_step, best_unique, choice_rest, choice_more, front_fits}
 
 -- rows below some number, each of which can be tested
 pub record IsRows (R : ℕ → Type 0) : Type 0 where

@@ -1,5 +1,5 @@
 -- The columns and the cells of a grid, in their order.
-use Rattle.std.specs.Prelude.{◌≡◌, ◌<◌, ◌+◌, ◌*◌, ◌^◌, ◌==◌, ◌&&◌, ℕ, zero, suc, Bool, List, [], ◌∷◌, ◌++◌, map, take, length, slice_index, slice_index_or, if◌then◌else◌, Option, None, Some}
+use Rattle.std.specs.Prelude.{◌≡◌, ◌<◌, ◌^◌, ◌==◌, ◌&&◌, ℕ, zero, suc, Bool, List, [], ◌∷◌, ◌++◌, map, take, length, slice_index, slice_index_or, if◌then◌else◌, Option, None, Some}
 use Rattle.std.specs.List.{flat_map}
 use Rattle.std.specs.Option.{option_map}
 use Rattle.fp_order.specs.declared.grid.Grid.{Grid}
@@ -50,6 +50,11 @@ pub record IsCell (g : Grid) (x : Cell) : Type 0 where
   pub source : x.source < sources g x.row
   pub target : x.target < targets g x.row
 
+-- a column of these functions: each choice is one of the function's measures
+pub record IsColumn (functions column : List ℕ) : Type 0 where
+  pub len : length column ≡ length functions
+  pub below : (f : ℕ) → f < length functions → slice_index column f < slice_index functions f
+
 -- the cell of a column on a row
 abbrev pub cell_on : Grid → List ℕ → ℕ → Cell
 cell_on g column r = record { row = r; source = slice_index column (caller g r); target = slice_index column (callee g r) }
@@ -58,9 +63,13 @@ cell_on g column r = record { row = r; source = slice_index column (caller g r);
 abbrev pub column_cells : Grid → List ℕ → List Cell
 column_cells g column = map (cell_on g column) (below (length g.rows))
 
+-- the cells of a row and a source, by target
+abbrev pub source_cells : Grid → ℕ → ℕ → List Cell
+source_cells g r s = map (λ t. record { row = r; source = s; target = t }) (below (targets g r))
+
 -- the cells of a row, by source and then target
 abbrev pub row_cells : Grid → ℕ → List Cell
-row_cells g r = flat_map (λ s. map (λ t. record { row = r; source = s; target = t }) (below (targets g r))) (below (sources g r))
+row_cells g r = flat_map (source_cells g r) (below (sources g r))
 
 abbrev pub same_cell : Cell → Cell → Bool
 same_cell x y = x.row == y.row && x.source == y.source && x.target == y.target

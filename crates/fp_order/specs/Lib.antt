@@ -2,3 +2,4 @@ pub mod Orders
 pub mod Matrix
 pub mod Greedy
 pub mod Grid
+pub mod Numbers

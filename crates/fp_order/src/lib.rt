@@ -6,6 +6,7 @@ mod entry;
 mod grid;
 mod items;
 mod matrix;
+mod numbering;
 mod search;
 
 pub use choices::columns;
@@ -13,4 +14,5 @@ pub use entry::Entry;
 pub use grid::{Cell, Grid};
 pub use items::Items;
 pub use matrix::{Matrix, Order};
+pub use numbering::{CellTable, cell_table, cells};
 pub use search::{best_order, decides, orders_join};

@@ -1,6 +1,5 @@
-use Rattle.std.proofs.Common.{rules, arith, ◌≡◌, ◌-◌, length, List, ℕ, take, get_or}
-use Rattle.std.proofs.lemmas.Grind.{common_steps}
-use Rattle.fp_order.specs.Grid.{prefixed, columns_of}
+use Rattle.std.proofs.Common.{rules, arith, ◌≡◌, ◌-◌, length, take, get_or}
+use Rattle.fp_order.specs.Grid.{prefixed}
 use Rattle.fp_order.proofs.CutLists.{column_more}
 use Rattle.fp_order.proofs.choices.columns.Goals as goal
 

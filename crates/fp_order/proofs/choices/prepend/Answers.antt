@@ -1,5 +1,4 @@
-use Rattle.std.proofs.Common.{rules, arith, ◌≡◌}
-use Rattle.std.proofs.lemmas.Grind.{common_steps}
+use Rattle.std.proofs.Common.{rules}
 use Rattle.fp_order.specs.Grid.{prefixed}
 use Rattle.fp_order.proofs.CutLists.{later_pushed, later_full, take_all}
 use Rattle.fp_order.proofs.choices.prepend.Goals as goal
