@@ -2,12 +2,14 @@
 use Rattle.std.proofs.Common.{◌≡◌, ◌∙◌, ◌<◌, ◌+◌, ◌-◌, ◌++◌, ℕ, suc, zero, List, [], ◌∷◌, true, cond, length, take, drop, Option, Some, None, arith, sym, ap, refl, slice_get, get_or}
 use Rattle.std.specs.String.{string_bytes}
 use Rattle.std.specs.Str.{bytes_eq}
+use Rattle.std.specs.Option.{option_map}
+use Rattle.std.proofs.lemmas.Slice.Eq.{bytes_eq-Decides}
 use Rattle.std.proofs.lemmas.List.{map_push, take-append-drop, drop-drop, drop_more}
 use Rattle.fp_outside.specs.declared.memory.MemFile.{MemFile}
 use Rattle.fp_outside.specs.declared.memory.Place.{Place}
 use Rattle.fp_outside.specs.Held.{file_in, Opens}
 use Rattle.fp_outside.specs.Memory.{left_at, IsPlace}
-use Rattle.fp_outside.specs.View.{entries_of, left_of, PlaceIn}
+use Rattle.fp_outside.specs.View.{entries_of, left_of, name_of, PlaceIn}
 use Rattle.fp_outside.proofs.Outside.{rest_all}
 
 -- a place is in one of the files
@@ -31,6 +33,10 @@ file_in-at name es i file l e same before =
 pub Opens-at : (name : List ℕ) (es : List MemFile) (i : ℕ) (file : MemFile) → i < length es → file ≡ get_or es i file → bytes_eq (string_bytes file.name) name ≡ true → file_in (entries_of (drop i es)) name ≡ file_in (entries_of es) name → Opens (Some (entries_of es)) name (left_at (entries_of es) i 0)
 Opens-at name es i file l e same before = rw (slice_get-entries_of es i file l e) (file_in-at name es i file l e same before)
 
+-- its name
+pub name_of-at : (name : List ℕ) (es : List MemFile) (i : ℕ) (file : MemFile) → i < length es → file ≡ get_or es i file → bytes_eq (string_bytes file.name) name ≡ true → option_map (λ f. f.0) (slice_get (entries_of es) i) ≡ Some name
+name_of-at name es i file l e same = rw (slice_get-entries_of es i file l e) (ap Some ((bytes_eq-Decides (string_bytes file.name) name).0 same))
+
 pub IsPlace-at : (es : List MemFile) (i : ℕ) (file : MemFile) → i < length es → file ≡ get_or es i file → IsPlace (entries_of es) i 0
 IsPlace-at es i file l e = rw (slice_get-entries_of es i file l e) (omega arith)
 
@@ -44,9 +50,13 @@ pub PlaceIn-push : (es : List MemFile) (e : MemFile) (place : Option Place) → 
 PlaceIn-push es e None p = tt
 PlaceIn-push es e (Some place) p = let q = kept_at (entries_of es) (string_bytes e.name, e.bytes.items) place.file place.at p in rw map_push (rw q p)
 
-pub left_of-push : (es : List MemFile) (e : MemFile) (place : Option Place) → PlaceIn es place → left_of (es ++ e ∷ []) place ≡ left_of es place
-left_of-push es e None p = refl
-left_of-push es e (Some place) p = let q = kept_at (entries_of es) (string_bytes e.name, e.bytes.items) place.file place.at p in rw map_push (rw q refl)
+pub name_of-push : (es : List MemFile) (e : MemFile) (place : Option Place) (more : List MemFile) → PlaceIn es place → more ≡ es ++ e ∷ [] → name_of more place ≡ name_of es place
+name_of-push es e None more p same = refl
+name_of-push es e (Some place) more p same = let q = kept_at (entries_of es) (string_bytes e.name, e.bytes.items) place.file place.at p in rw (same, map_push) (rw q refl)
+
+pub left_of-push : (es : List MemFile) (e : MemFile) (place : Option Place) (more : List MemFile) → PlaceIn es place → more ≡ es ++ e ∷ [] → left_of more place ≡ left_of es place
+left_of-push es e None more p same = refl
+left_of-push es e (Some place) more p same = let q = kept_at (entries_of es) (string_bytes e.name, e.bytes.items) place.file place.at p in rw (same, map_push) (rw q refl)
 
 -- the file at a place
 pub file_at : (es : List MemFile) (i at : ℕ) (file : MemFile) → IsPlace (entries_of es) i at → file ≡ get_or es i file → slice_get (entries_of es) i ≡ Some (string_bytes file.name, file.bytes.items)

@@ -12,6 +12,11 @@ Opens None name left = Unit {0}
 Opens (Some files) name None = ⊥
 Opens (Some files) name (Some left) = file_in files name ≡ Some left
 
+-- Where it is told, the current file has this name.
+abbrev pub IsNamed : Option (List ℕ) → List ℕ → Type 0
+IsNamed None name = Unit {0}
+IsNamed (Some told) name = told ≡ name
+
 -- Where it is told, the file of this name has these bytes.
 abbrev pub Has : Option (List (List ℕ × List ℕ)) → List ℕ → List ℕ → Type 0
 Has None name bytes = Unit {0}

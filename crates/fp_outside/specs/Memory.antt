@@ -4,10 +4,11 @@ use Rattle.std.specs.Option.{option_map, MatchOption}
 use Rattle.fp_outside.specs.Causes.{next_count}
 use Rattle.fp_outside.specs.Held.{file_in}
 
--- the names with their bytes, what is left of the current file, how many calls of `open` succeeded, how many calls there
+-- the names with their bytes, the name of the current file and what is left of it, how many calls of `open` succeeded, how many calls there
 -- were, which of them is to fail, and how many failed
 pub record Kept : Type 0 where
   pub files : List (List ℕ × List ℕ)
+  pub name : Option (List ℕ)
   pub left : Option (List ℕ)
   pub opened : ℕ
   pub calls : ℕ

@@ -1,4 +1,4 @@
-// Counts of calls and of failures, which stop at `u64::MAX`.
+//! Counts of calls and of failures, which stop at `u64::MAX`.
 ghost use Rattle.std.specs.Prelude.{◌≡◌, ◌≤◌, None};
 ghost use Rattle.fp_outside.specs.Causes.{next_count};
 ghost use Rattle.fp_outside.specs.Memory.{is_due};

@@ -1,9 +1,9 @@
-// Files as the program sees them.
+//! Files as the program sees them.
 ghost use Rattle.std.specs.Prelude.{◌≡◌, ◌<◌, ◌↔◌, ℕ, List, Bool, Option, length, OnOk, IsOk, IsTrue};
 ghost use Rattle.std.specs.Io.{ReadsAtMost};
 ghost use Rattle.std.specs.Io.KnownBytes.{ReadConsumes};
 ghost use Rattle.fp_outside.specs.Causes.{HasCause};
-ghost use Rattle.fp_outside.specs.Held.{Opens};
+ghost use Rattle.fp_outside.specs.Held.{Opens, IsNamed};
 ghost use Rattle.fp_outside.specs.Opened.{CountsOpen};
 
 /// A call to the outside failed. It comes only where the count of its object rose in that call, or
@@ -23,6 +23,9 @@ pub trait Files {
     /// Whether a file is current.
     ghost current: { Self → Bool };
 
+    /// The name of the current file, where it is told.
+    ghost named: { Self → Option (List ℕ) };
+
     /// How many calls of `open` succeeded, where it is told.
     ghost opened: { Self → Option ℕ };
 
@@ -32,6 +35,7 @@ pub trait Files {
     /// Makes the named file current, from its start. After a failure no file is current.
     fn open(&mut self, name: &str) -> Result<(), Failed>
         ensures opens { OnOk result (Opens (held self.old) name.now (left self.new)) }
+        ensures named { OnOk result (IsNamed (named self.new) name.now) }
         ensures held { held self.new ≡ held self.old }
         ensures current { IsTrue (current self.new) ↔ IsOk result }
         ensures opened { CountsOpen (opened self.old) (opened self.new) result }
@@ -44,6 +48,7 @@ pub trait Files {
         requires room { 0 < length buf.old }
         ensures bound { ReadsAtMost result buf.new }
         ensures bytes { ReadConsumes (left self.old) (left self.new) result buf.new }
+        ensures named { named self.new ≡ named self.old }
         ensures held { held self.new ≡ held self.old }
         ensures current { IsTrue (current self.new) }
         ensures opened { opened self.new ≡ opened self.old }

@@ -1,13 +1,13 @@
-// Files in memory, whose calls can be made to fail.
+//! Files in memory, whose calls can be made to fail.
 ghost use Rattle.std.specs.Prelude.{◌≡◌, ◌≤◌, ◌<◌, ◌+◌, ◌^◌, ◌++◌, ◌↔◌, [], ◌∷◌, min, take, length, Option, Some, None, is_some, IsTrue, IsOk, IsErr, OnOk, OnErr, IfOk, IfSome, IfNone};
 ghost use Rattle.std.specs.String.{string_bytes};
 ghost use Rattle.std.specs.Io.{ReadsAtMost};
 ghost use Rattle.std.specs.Io.KnownBytes.{Consumes, IsAtEnd, ReadConsumes};
 ghost use Rattle.fp_outside.specs.Causes.{HasCause};
-ghost use Rattle.fp_outside.specs.Held.{file_in, Opens};
+ghost use Rattle.fp_outside.specs.Held.{file_in, Opens, IsNamed};
 ghost use Rattle.fp_outside.specs.Opened.{CountsOpen};
 ghost use Rattle.fp_outside.specs.Memory.{CountsCall, is_due, open_fails};
-ghost use Rattle.fp_outside.specs.View.{entries_of, left_of, PlaceIn, moved};
+ghost use Rattle.fp_outside.specs.View.{entries_of, left_of, name_of, PlaceIn, moved};
 
 use crate::counting::{Calls, count_failure};
 use crate::{Failed, Files};
@@ -53,11 +53,11 @@ pub struct MemFiles {
 
 impl Model for MemFiles {
     ghost use Rattle.fp_outside.specs.Memory.{Kept};
-    ghost use Rattle.fp_outside.specs.View.{entries_of, left_of, PlaceIn};
+    ghost use Rattle.fp_outside.specs.View.{entries_of, left_of, name_of, PlaceIn};
 
     ghost Value = { Kept };
 
-    ghost view = { λ m. record { files = entries_of m.entries.items; left = left_of m.entries.items m.current; opened = m.opened; calls = m.calls.made; fails = m.calls.fails; failures = m.calls.failures } };
+    ghost view = { λ m. record { files = entries_of m.entries.items; name = name_of m.entries.items m.current; left = left_of m.entries.items m.current; opened = m.opened; calls = m.calls.made; fails = m.calls.fails; failures = m.calls.failures } };
 
     ghost invariant = { λ m. PlaceIn m.entries.items m.current };
 }
@@ -66,7 +66,7 @@ impl MemFiles {
     /// No files, none current, no call yet and none that is to fail.
     pub fn new(alloc: Global) -> Self
         ensures { result
-            ≡ record { files = []; left = None; opened = 0; calls = 0; fails = None; failures = 0 } }
+            ≡ record { files = []; name = None; left = None; opened = 0; calls = 0; fails = None; failures = 0 } }
     {
         MemFiles {
             alloc,
@@ -102,6 +102,7 @@ fn place_of(entries: &[MemFile], name: &str) -> Option<Place>
     ensures none { IfNone result (file_in (entries_of entries.now) name.now ≡ None) }
     ensures opens { IfSome result (λ place.
         Opens (Some (entries_of entries.now)) name.now (left_of entries.now (Some place))) }
+    ensures named { IfSome result (λ place. name_of entries.now (Some place) ≡ Some name.now) }
     ensures place { IfSome result (λ place. PlaceIn entries.now (Some place)) }
 {
     for (file, entry) in entries.iter().enumerate() {
@@ -142,6 +143,8 @@ impl Files for MemFiles {
 
     ghost left = { λ m. m.left };
 
+    ghost named = { λ m. m.name };
+
     ghost current = { λ m. is_some m.left };
 
     ghost opened = { λ m. Some m.opened };
@@ -150,6 +153,7 @@ impl Files for MemFiles {
 
     fn open(&mut self, name: &str) -> Result<(), Failed>
         ensures opens { OnOk result (Opens (Some self.old.files) name.now self.new.left) }
+        ensures named { OnOk result (IsNamed self.new.name name.now) }
         ensures held { Some self.new.files ≡ Some self.old.files }
         ensures current { IsTrue (is_some self.new.left) ↔ IsOk result }
         ensures opened { CountsOpen (Some self.old.opened) (Some self.new.opened) result }
@@ -176,6 +180,7 @@ impl Files for MemFiles {
         requires room { 0 < length buf.old }
         ensures bound { ReadsAtMost result buf.new }
         ensures bytes { ReadConsumes self.old.left self.new.left result buf.new }
+        ensures named { self.new.name ≡ self.old.name }
         ensures held { Some self.new.files ≡ Some self.old.files }
         ensures current { IsTrue (is_some self.new.left) }
         ensures opened { Some self.new.opened ≡ Some self.old.opened }

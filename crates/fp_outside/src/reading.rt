@@ -1,8 +1,8 @@
-// The reading of a whole file.
+//! The reading of a whole file.
 ghost use Rattle.std.specs.Prelude.{◌≡◌, ◌≤◌, ◌<◌, ◌-◌, ◌^◌, ◌↔◌, [], length, vec_len, if◌then◌else◌, IfOk, OnOk, IsTrue};
 ghost use Rattle.std.specs.Result.{IsErrOf};
 ghost use Rattle.std.specs.Io.KnownBytes.{Consumes, IsAtEnd};
-ghost use Rattle.fp_outside.specs.Held.{Has, IsLonger, HasMore};
+ghost use Rattle.fp_outside.specs.Held.{Has, IsNamed, IsLonger, HasMore};
 ghost use Rattle.fp_outside.specs.Opened.{one_more};
 ghost use Rattle.fp_outside.specs.Reading.{LeavesCurrent};
 ghost use Rattle.fp_outside.specs.declared.reading.ReadFault.TheVariants as fault;
@@ -54,6 +54,7 @@ pub fn read_all<F: Files>(
     requires { F.faults files.old < 2 ^ 64 - 1 }
     ensures whole { IfOk result (λ bytes. Has (F.held files.old) name.now bytes.items) }
     ensures fits { IfOk result (λ bytes. length bytes.items ≤ room) }
+    ensures end { IfOk result (λ _. IsAtEnd (F.left files.new)) }
     ensures too_long { IsErrOf result ReadFault.TooLong
         → IsLonger (F.held files.old) name.now room }
     ensures failed { IsErrOf result ReadFault.Failed
@@ -61,7 +62,9 @@ pub fn read_all<F: Files>(
     ensures counts { F.faults files.old ≤ F.faults files.new }
     ensures held { F.held files.new ≡ F.held files.old }
 
-    // The file is current exactly where it was opened, and it was opened unless a call failed.
+    // No other file is opened. It is current exactly where it was opened, and it was opened unless a
+    // call failed.
+    ensures named { IsTrue (F.current files.new) → IsNamed (F.named files.new) name.now }
     ensures opened { F.opened files.new
         ≡ (if F.current files.new then one_more (F.opened files.old) else F.opened files.old) }
     ensures current { LeavesCurrent result (F.current files.new) }
@@ -85,6 +88,7 @@ fn read_rest<F: Files>(files: &mut F, bytes: &mut Vec<u8>, room: usize) -> Resul
         ↔ (F.faults files.old < F.faults files.new) }
     ensures counts { F.faults files.old ≤ F.faults files.new }
     ensures held { F.held files.new ≡ F.held files.old }
+    ensures named { F.named files.new ≡ F.named files.old }
     ensures opened { F.opened files.new ≡ F.opened files.old }
     ensures current { IsTrue (F.current files.new) }
 {

@@ -1,4 +1,4 @@
-// Real files and the standard output: the edge that tells nothing of contents.
+//! Real files and the standard output: the edge that tells nothing of contents.
 ghost use Rattle.std.specs.Prelude.{◌≡◌, None, is_some, false};
 
 use crate::counting::count_failure;
@@ -32,6 +32,8 @@ impl<'a, R: rt::Files> Files for RealFiles<'a, R> {
     ghost held = { λ _. None };
 
     ghost left = { λ _. None };
+
+    ghost named = { λ _. None };
 
     ghost current = { λ files. is_some files.file };
 

@@ -1,4 +1,4 @@
-// A place to write to, and the writing of a whole text.
+//! A place to write to, and the writing of a whole text.
 ghost use Rattle.std.specs.Prelude.{◌≡◌, ◌≤◌, ◌<◌, ◌-◌, ◌^◌, ◌↔◌, ℕ, List, Option, length, OnOk, IsErr};
 ghost use Rattle.std.specs.Io.KnownBytes.{WriteAppends, Appends};
 ghost use Rattle.fp_outside.specs.Causes.{HasCause};

@@ -1,4 +1,4 @@
-// A sink in memory, with room for so many bytes.
+//! A sink in memory, with room for so many bytes.
 ghost use Rattle.std.specs.Prelude.{◌≡◌, ◌≤◌, ◌<◌, ◌-◌, ◌↔◌, min, [], Some, None, length, IfOk, IsErr, IsTrue};
 ghost use Rattle.std.specs.Io.KnownBytes.{WriteAppends};
 ghost use Rattle.fp_outside.specs.Causes.{HasCause};

@@ -1,8 +1,9 @@
 -- What is written for a file of definitions, in the full form or the short one.
-use Rattle.std.specs.Prelude.{◌≡◌, ◌≤◌, ◌<◌, ℕ, if◌then◌else◌, List, [], ◌∷◌, ◌++◌, length, Bool, true, false, Option, Some, None, unwrap_or, codes}
+use Rattle.std.specs.Prelude.{◌≡◌, ◌≤◌, ◌<◌, ◌⊎◌, ℕ, nat_le, ◌==◌, ◌||◌, cond, if◌then◌else◌, List, [], ◌∷◌, ◌++◌, length, map, Bool, true, false, Option, Some, None, unwrap_or, codes}
 use Rattle.std.specs.Fmt.{decimal}
-use Rattle.std.specs.Io.KnownBytes.{Appends}
-use Rattle.fp_outside.specs.Held.{file_in}
+use Rattle.std.specs.Io.KnownBytes.{Appends, IsAtEnd}
+use Rattle.fp_outside.specs.Held.{file_in, IsNamed, IsLonger}
+use Rattle.fp_outside.specs.Opened.{one_more}
 use Rattle.fp_outside.specs.Sink.{AppendsPrefix}
 use Rattle.fp_term.specs.Types.{Typ}
 use Rattle.fp_term.specs.Terms.{Tm, constant}
@@ -42,8 +43,15 @@ fault_text clash = codes "Clash"
 fault_text (not_closed name) = codes "NotClosed " ++ name
 fault_text (hidden_type name) = codes "HiddenType '" ++ name
 
+-- a byte of a file's name as it is printed: a control byte is a question mark, so that a name is on one line
+abbrev pub shown_byte : ℕ → ℕ
+shown_byte b = if nat_le b 31 || (b == 127) then 63 else b
+
+abbrev pub shown_file : List ℕ → List ℕ
+shown_file name = map shown_byte name
+
 abbrev pub refusal_line : List ℕ → ℕ → Fault → List ℕ
-refusal_line file at fault = codes "refused " ++ file ++ codes " at " ++ decimal at ++ codes ": " ++ fault_text fault ++ 10 ∷ []
+refusal_line file at fault = codes "refused " ++ shown_file file ++ codes " at " ++ decimal at ++ codes ": " ++ fault_text fault ++ 10 ∷ []
 
 -- the most bytes of a file
 abbrev pub byte_limit : ℕ
@@ -112,6 +120,19 @@ Reports (Some files) full file text ends = IsReport full file (unwrap_or (file_i
 abbrev pub Writes : Option (Bool × List ℕ) → Option (List (List ℕ × List ℕ)) → Option (List ℕ) → Option (List ℕ) → Bool → Type 0
 Writes None held old new ends = ⊥
 Writes (Some words) held old new ends = (text : List ℕ) × Reports held words.0 words.1 text ends × Appends old new text
+
+-- no file but the named one was opened, and that once at most
+abbrev pub OpensOnly : Option (Bool × List ℕ) → Option ℕ → Option ℕ → Option (List ℕ) → Type 0
+OpensOnly None before after name = after ≡ before
+OpensOnly (Some words) before after name = (after ≡ before) ⊎ (after ≡ one_more before) × IsNamed name words.1
+
+-- the named file was read to its end, or is longer than a file may be
+abbrev pub IsReadOrLong : Option (List (List ℕ × List ℕ)) → List ℕ → Option (List ℕ) → Type 0
+IsReadOrLong held file left = IsAtEnd left ⊎ IsLonger held file byte_limit
+
+abbrev pub ReadsNamed : Option (Bool × List ℕ) → Option (List (List ℕ × List ℕ)) → Option (List ℕ) → Type 0
+ReadsNamed None held left = ⊥
+ReadsNamed (Some words) held left = IsReadOrLong held words.1 left
 
 -- a first part of the text, or of the usage line, is written
 abbrev pub WritesPart : Option (Bool × List ℕ) → Option (List (List ℕ × List ℕ)) → Option (List ℕ) → Option (List ℕ) → Type 0

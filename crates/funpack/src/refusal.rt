@@ -1,8 +1,8 @@
 //! Refusals and their lines.
-ghost use Rattle.std.specs.Prelude.{◌≡◌, ◌++◌, codes, OnOk, IfOk};
+ghost use Rattle.std.specs.Prelude.{◌≡◌, ◌++◌, ◌∷◌, [], codes, OnOk, IfOk};
 ghost use Rattle.std.specs.Fmt.{decimal};
 ghost use Rattle.std.specs.String.{string_bytes};
-ghost use Rattle.funpack.specs.Report.{refusal_line, fault_text};
+ghost use Rattle.funpack.specs.Report.{refusal_line, fault_text, shown_byte, shown_file};
 ghost use Rattle.funpack.specs.Reasons.{fault_seen, Explains, shown_name};
 
 use fp_kernel::DefFault;
@@ -86,11 +86,32 @@ fn push_name(text: &mut Vec<u8>, name: Option<&Name>) -> Result<(), AllocError>
     }
 }
 
-// The line up to the kind of the refusal.
-fn head(alloc: Global, file: &str, at: u32, kind: &str) -> Result<String, AllocError>
-    ensures { IfOk result (λ line. string_bytes line ≡ codes "refused " ++ file.now ++ codes " at " ++ decimal at ++ codes ": " ++ kind.now) }
+// A byte of a file's name as it is printed.
+fn shown_byte(byte: u8) -> u8
+    ensures { result ≡ shown_byte byte }
 {
-    let line = format!(in alloc; "refused {file} at {at}: {kind}")?;
+    if byte <= 31 || byte == 127 {
+        b'?'
+    } else {
+        byte
+    }
+}
+
+// Puts the file's name at the end, on one line whatever its bytes.
+fn push_file(text: &mut Vec<u8>, name: &str) -> Result<(), AllocError>
+    ensures { OnOk result (text.new.items ≡ text.old.items ++ shown_file name.now) }
+{
+    for byte in name.as_bytes() {
+        text.push(shown_byte(*byte))?;
+    }
+    Ok(())
+}
+
+// What stands between the file and the name in the line.
+fn place(alloc: Global, at: u32, kind: &str) -> Result<String, AllocError>
+    ensures { IfOk result (λ line. string_bytes line ≡ codes " at " ++ decimal at ++ codes ": " ++ kind.now) }
+{
+    let line = format!(in alloc; " at {at}: {kind}")?;
     Ok(line)
 }
 
@@ -102,10 +123,12 @@ fn push_head(
     at: u32,
     kind: &str,
 ) -> Result<(), AllocError>
-    ensures { OnOk result (text.new.items ≡ text.old.items ++ (codes "refused " ++ file.now ++ codes " at " ++ decimal at ++ codes ": " ++ kind.now)) }
+    ensures { OnOk result (text.new.items ≡ text.old.items ++ (codes "refused " ++ shown_file file.now ++ codes " at " ++ decimal at ++ codes ": " ++ kind.now)) }
 {
-    let line = head(alloc, file, at, kind)?;
-    text.extend_from_slice(line.as_bytes())
+    let place = place(alloc, at, kind)?;
+    text.extend_from_slice(b"refused ")?;
+    push_file(text, file)?;
+    text.extend_from_slice(place.as_bytes())
 }
 
 // Puts the line of a refusal at the end.

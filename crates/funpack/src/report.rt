@@ -1,6 +1,6 @@
 //! The text that is written for a file.
-ghost use Rattle.std.specs.Prelude.{◌≡◌, ◌≤◌, ◌<◌, ◌^◌, ◌-◌, ◌↔◌, length, true, IfOk, IsErr};
-ghost use Rattle.funpack.specs.Report.{IsReport, Reports, refusal_line};
+ghost use Rattle.std.specs.Prelude.{◌≡◌, ◌≤◌, ◌<◌, ◌^◌, ◌-◌, ◌↔◌, length, true, Some, IfOk, IsErr};
+ghost use Rattle.funpack.specs.Report.{IsReport, Reports, OpensOnly, IsReadOrLong, refusal_line};
 ghost use Rattle.funpack.specs.Reasons.{fault_seen};
 
 use crate::commands::carry_out;
@@ -57,6 +57,8 @@ pub fn report_of<F: Files>(
     ensures reports { IfOk result (λ report. IfOk report (λ r. Reports (F.held files.old) words.now.full words.now.file.now r.text.items r.refused)) }
     ensures failed { IsErr result ↔ (F.faults files.old < F.faults files.new) }
     ensures counts { F.faults files.old ≤ F.faults files.new }
+    ensures only { OpensOnly (Some (words.now.full, words.now.file.now)) (F.opened files.old) (F.opened files.new) (F.named files.new) }
+    ensures read { IfOk result (λ report. IfOk report (λ _. IsReadOrLong (F.held files.old) words.now.file.now (F.left files.new))) }
 {
     match read_all(alloc, files, words.file, LIMIT as usize) {
         Ok(bytes) => Ok(report_on(alloc, words, &bytes)),

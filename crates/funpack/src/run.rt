@@ -4,7 +4,7 @@ ghost use Rattle.std.specs.String.{string_bytes};
 ghost use Rattle.std.specs.Io.KnownBytes.{Appends};
 ghost use Rattle.fp_outside.specs.Sink.{AppendsPrefix};
 ghost use Rattle.funpack.specs.Words.{asked, usage_line};
-ghost use Rattle.funpack.specs.Report.{Writes, WritesPart};
+ghost use Rattle.funpack.specs.Report.{Writes, WritesPart, OpensOnly, ReadsNamed, IsReadOrLong};
 
 use crate::report::{Report, report_of};
 use crate::words::{Words, asked};
@@ -31,6 +31,10 @@ pub fn run<F: Files, K: Sink>(alloc: Global, words: &[String], files: &mut F, si
     ensures usage { result ≡ 2 → Appends (K.written sink.old) (K.written sink.new) usage_line }
     ensures unopened { asked (map string_bytes words.now) ≡ None → files.new ≡ files.old }
 
+    // No file but the named one is opened. With 0 or 1 it was read to its end, or is longer than a file may be.
+    ensures only { OpensOnly (asked (map string_bytes words.now)) (F.opened files.old) (F.opened files.new) (F.named files.new) }
+    ensures read { result < 2 → ReadsNamed (asked (map string_bytes words.now)) (F.held files.old) (F.left files.new) }
+
     // A fault is answered exactly where its count rose. Nothing is written then for one of the files, and a first part of the text
     // for one of the sink.
     ensures files_fault { result ≡ 3 ↔ (F.faults files.old < F.faults files.new) }
@@ -56,6 +60,8 @@ fn run_file<F: Files, K: Sink>(alloc: Global, words: &Words<'_>, files: &mut F, 
     ensures refused { result ≡ 1 → Writes (Some (words.now.full, words.now.file.now)) (F.held files.old) (K.written sink.old) (K.written sink.new) true }
     ensures quiet { result < 3 → (F.faults files.new ≡ F.faults files.old) × (K.faults sink.new ≡ K.faults sink.old) }
     ensures formed { result ≢ 2 }
+    ensures only { OpensOnly (Some (words.now.full, words.now.file.now)) (F.opened files.old) (F.opened files.new) (F.named files.new) }
+    ensures read { result < 2 → IsReadOrLong (F.held files.old) words.now.file.now (F.left files.new) }
     ensures files_fault { result ≡ 3 ↔ (F.faults files.old < F.faults files.new) }
     ensures sink_fault { result ≡ 4 ↔ (K.faults sink.old < K.faults sink.new) }
     ensures part { result ≡ 4 → WritesPart (Some (words.now.full, words.now.file.now)) (F.held files.old) (K.written sink.old) (K.written sink.new) }

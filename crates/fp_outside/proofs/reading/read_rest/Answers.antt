@@ -10,6 +10,7 @@ loop-count-preserved g c =
       whole = rw c.in_ok-extend_from_slice.ensures.items (Consumes-then _ _ _ _ _ old.whole read.bytes.0);
       fits = omega (arith, c.in_ok-extend_from_slice.ensures.len);
       counts = read.cause.kept ∙ old.counts;
+      named = read.named ∙ old.named;
       held = read.held ∙ old.held;
       opened = read.opened ∙ old.opened;
       current = read.current;

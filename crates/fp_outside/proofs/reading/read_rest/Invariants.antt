@@ -7,6 +7,7 @@ invariant-loop-count g l = record {
   whole : Consumes (g.F.Files.left l.fn.files) (g.F.Files.left l.files) l.bytes.items;
   fits : vec_len l.bytes ≤ l.room;
   counts : g.F.Files.faults l.files ≡ g.F.Files.faults l.fn.files;
+  named : g.F.Files.named l.files ≡ g.F.Files.named l.fn.files;
   held : g.F.Files.held l.files ≡ g.F.Files.held l.fn.files;
   opened : g.F.Files.opened l.files ≡ g.F.Files.opened l.fn.files;
   current : IsTrue (g.F.Files.current l.files);
