@@ -1,5 +1,5 @@
 -- The first choices don't depend on how large a large number of them is.
-use Rattle.std.proofs.Common.{◌≡◌, ◌⊎◌, ◌<◌, ◌≤◌, ◌+◌, ◌-◌, ◌^◌, ◌*◌, nat_lt, ℕ, zero, suc, Bool, true, false, List, [], ◌∷◌, ◌++◌, map, take, length, refl, arith, inl, inr, sym, ◌∙◌, ap, subst, length-append, if◌then◌else◌}
+use Rattle.std.proofs.Common.{◌≡◌, ◌⊎◌, ◌≤◌, ◌-◌, ◌^◌, nat_lt, ℕ, zero, suc, Bool, true, false, List, [], ◌∷◌, ◌++◌, map, take, length, refl, arith, inl, inr, sym, ◌∙◌, ap, length-append, if◌then◌else◌}
 use Rattle.std.proofs.Math.Nat.{pow-le-pow_right}
 use Rattle.std.proofs.lemmas.Bool.{cases_lt, ltb-false}
 use Rattle.std.proofs.lemmas.List.{length-map}
@@ -39,11 +39,11 @@ choices_same k f g same (n ∷ ns) =
     ∙ (ap (λ (t : List (List ℕ)). take k (prefixed (f n) t)) (choices_same k f g same ns)
     ∙ (prefixed_cut k (f n) (choices (map g ns)) ∙ prefixed_same k (f n) (g n) (choices (map g ns)) (same n)))
 
+large : (measures : ℕ) → nat_lt measures 12 ≡ false → 4096 ≤ 2 ^ measures
+large measures s = pow-le-pow_right {n = 2} (omega arith) {i = 12} {j = measures} (ltb-false measures 12 s)
+
 pub counts_same : (measures : ℕ) → SameUpTo 2049 (set_count measures) (2 ^ measures - 1)
 counts_same measures = by_size (nat_lt measures 12) refl where
   by_size : (b : Bool) → nat_lt measures 12 ≡ b → SameUpTo 2049 (if b then 2 ^ measures - 1 else 4095) (2 ^ measures - 1)
   by_size true s = inl refl
   by_size false s = inr (omega arith, omega (arith, large measures s))
-
-  large : (measures : ℕ) → nat_lt measures 12 ≡ false → 4096 ≤ 2 ^ measures
-  large measures s = pow-le-pow_right {2} (omega arith) {12} {measures} (ltb-false measures 12 s)

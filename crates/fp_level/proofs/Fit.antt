@@ -7,7 +7,7 @@ use Rattle.fp_order.specs.Grid.{choices, columns_of, IsColumn}
 use Rattle.fp_order.proofs.CutLists.{choices_columns, columns_fit}
 use Rattle.fp_level.specs.declared.rank.Rank.{Rank}
 use Rattle.fp_level.specs.declared.rank.Rank.TheVariants.{Column, Max, Min}
-use Rattle.fp_level.specs.Ranks.{sets_of, at_most, mappings_of, column_ranks, IsSets, IsRank, candidate}
+use Rattle.fp_level.specs.Ranks.{sets_of, mappings_of, column_ranks, IsSets, IsRank, candidate}
 
 pub map_at : (f : ℕ → ℕ) (xs : List ℕ) (i : ℕ) → i < length xs → get_or (map f xs) i 0 ≡ f (get_or xs i 0)
 map_at f [] i l = absurd (omega arith)

@@ -3,7 +3,8 @@
 ghost use Rattle.std.specs.Prelude.{◌≡◌, ◌++◌, ◌+◌, map, take, IfOk, OnOk};
 ghost use Rattle.fp_order.specs.Grid.{choices};
 ghost use Rattle.fp_level.specs.Ranks.{column_ranks, mappings_of, rank_of};
-ghost use Rattle.fp_level.specs.Counts.{set_count};
+ghost use Rattle.fp_level.specs.Counts.{set_count, over_choices};
+ghost use Rattle.fp_level.specs.declared.rank.Rank.TheVariants.{Column};
 
 use crate::rank::{Extremum, Rank, copied};
 use fp_order::{Items, columns, first_choices};
@@ -12,16 +13,23 @@ use std::alloc::{AllocError, Global};
 /// How many mappings by the greatest value there are at most; there are as many by the least.
 const MAX_SETS: usize = 2048;
 
+/// Columns as ranks.
+fn as_ranks(alloc: Global, columns: &[Items<u32>]) -> Result<Vec<Rank>, AllocError>
+    ensures { IfOk result (λ ranks. ranks.items ≡ map (λ column. Column column) columns.now) }
+{
+    let mut ranks = Vec::new(alloc);
+    for column in columns {
+        ranks.push(Rank::Column(copied(alloc, column)?))?;
+    }
+    Ok(ranks)
+}
+
 /// The columns as ranks.
 pub fn column_candidates(alloc: Global, functions: &[u32]) -> Result<Vec<Rank>, AllocError>
     ensures { IfOk result (λ ranks. ranks.items ≡ column_ranks functions.now) }
 {
     let all = columns(alloc, functions)?;
-    let mut ranks = Vec::new(alloc);
-    for column in all.as_slice() {
-        ranks.push(Rank::Column(copied(alloc, column)?))?;
-    }
-    Ok(ranks)
+    as_ranks(alloc, all.as_slice())
 }
 
 /// How many nonempty sets there are of so many measures, or 4,095 where there are more.
@@ -76,16 +84,24 @@ fn add_mappings(
     Ok(())
 }
 
+/// The mappings of these choices of sets, by the greatest value and then by the least.
+fn mappings_over(alloc: Global, choices: &[Items<u32>]) -> Result<Vec<Rank>, AllocError>
+    ensures { IfOk result (λ ranks. ranks.items ≡ over_choices choices.now) }
+{
+    let mut ranks = Vec::new(alloc);
+    add_mappings(alloc, &mut ranks, Extremum::Greatest, choices)?;
+    add_mappings(alloc, &mut ranks, Extremum::Least, choices)?;
+    Ok(ranks)
+}
+
 /// The mappings in their order, or none where there are more than 4,096.
 pub fn mapping_candidates(alloc: Global, functions: &[u32]) -> Result<Vec<Rank>, AllocError>
     ensures { IfOk result (λ ranks. ranks.items ≡ mappings_of functions.now) }
 {
     let counts = set_counts(alloc, functions)?;
     let chosen = first_choices(alloc, MAX_SETS + 1, counts.as_slice())?;
-    let mut ranks = Vec::new(alloc);
-    if chosen.as_slice().len() <= MAX_SETS {
-        add_mappings(alloc, &mut ranks, Extremum::Greatest, chosen.as_slice())?;
-        add_mappings(alloc, &mut ranks, Extremum::Least, chosen.as_slice())?;
+    if chosen.as_slice().len() > MAX_SETS {
+        return Ok(Vec::new(alloc));
     }
-    Ok(ranks)
+    mappings_over(alloc, chosen.as_slice())
 }

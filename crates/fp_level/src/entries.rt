@@ -5,7 +5,7 @@ ghost use Rattle.fp_order.specs.Grid.{sources, targets, caller, callee, cells_of
 ghost use Rattle.fp_level.specs.Ranks.{has, is_good, meets, all_meet, cell_of, over_count, under_count, over_set, under_set, mapping_entry, rank_entry, entry_at, IsRank, IsSets};
 
 use crate::rank::{Extremum, Rank};
-use crate::sheet::{Sheet, sheet};
+use crate::sheet::{Sheet, sheet_of};
 use fp_order::{Cell, Entry, Grid, Items};
 use std::alloc::{AllocError, Global};
 
@@ -185,6 +185,6 @@ pub fn entry_of(
     requires row { row < length g.now.rows }
     ensures { IfOk result (λ entry. entry ≡ rank_entry g.now entries.now rank.now row) }
 {
-    let s = sheet(alloc, g, entries)?;
+    let s = sheet_of(alloc, g, entries)?;
     Ok(rank_entry(&s, rank, row))
 }

@@ -1,6 +1,6 @@
 //! The best order among candidates whose entries are computed row by row.
 
-ghost use Rattle.std.specs.Prelude.{◌≡◌, ◌<◌, ◌^◌, ℕ, vec_len, length, IfOk, MatchOption};
+ghost use Rattle.std.specs.Prelude.{◌≡◌, ◌<◌, ℕ, vec_len, length, IfOk, MatchOption};
 ghost use Rattle.std.specs.Bool.{OnTrue, OnFalse};
 ghost use Rattle.fp_order.specs.Greedy.{IsLeft, IsMarked, Fits, IsNext, NoneFits};
 ghost use Rattle.fp_level.specs.Ranks.{candidate, candidate_entry, IsRank};
@@ -69,18 +69,16 @@ pub fn best_among(
     s: &Sheet,
     ranks: &[Rank],
     decided: &mut Vec<Option<u32>>,
-    base: usize,
+    base: u32,
 ) -> Result<Vec<usize>, AllocError>
     requires ranks { (d : ℕ) → d < length ranks.now → IsRank s.now.grid.functions (candidate ranks.now d) }
     requires rows { vec_len decided.old ≡ length s.now.grid.rows }
-    requires few { base < 2 ^ 62 }
     ensures { IfOk result (λ order. IsSearched (candidate_entry s.now.grid s.now.entries.items ranks.now)
         (length ranks.now) base decided.old.items decided.new.items order.items) }
-    ensures few { IfOk result (λ order. vec_len order < 2 ^ 62) }
 {
     let mut order = Vec::new(alloc);
     while let Some(c) = next_candidate(s, ranks, decided.as_slice()) {
-        let Ok(position) = u32::try_from(base + order.len()) else {
+        let Ok(position) = u32::try_from(base as usize + order.len()) else {
             return Err(AllocError);
         };
         mark(s, ranks, decided, c, position);

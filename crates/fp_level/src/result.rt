@@ -8,7 +8,7 @@ ghost use Rattle.fp_level.specs.Result.{IsResult};
 use crate::candidates::{column_candidates, mapping_candidates};
 use crate::greedy::best_among;
 use crate::rank::{Found, Rank};
-use crate::sheet::{Sheet, sheet};
+use crate::sheet::{Sheet, sheet_of};
 use fp_order::{Entry, Grid, Items};
 use std::alloc::{AllocError, Global};
 
@@ -41,7 +41,10 @@ fn search_among(
 {
     let mut decided = vec![in alloc; None; s.grid.row_count() as usize]?;
     let first = best_among(alloc, s, columns, &mut decided, 0)?;
-    let second = best_among(alloc, s, mappings, &mut decided, first.len())?;
+    let Ok(base) = u32::try_from(first.len()) else {
+        return Err(AllocError);
+    };
+    let second = best_among(alloc, s, mappings, &mut decided, base)?;
     let mut ranks = Items::new(alloc);
     add_chosen(alloc, &mut ranks, columns, first.as_slice())?;
     add_chosen(alloc, &mut ranks, mappings, second.as_slice())?;
@@ -58,7 +61,7 @@ pub fn search(alloc: Global, g: &Grid, entries: &[Entry]) -> Result<Found, Alloc
     requires entries { length entries.now ≡ length (cells_of g.now) }
     ensures { IfOk result (λ found. IsResult g.now entries.now found) }
 {
-    let s = sheet(alloc, g, entries)?;
+    let s = sheet_of(alloc, g, entries)?;
     let columns = column_candidates(alloc, g.functions.as_slice())?;
     let mappings = mapping_candidates(alloc, g.functions.as_slice())?;
     search_among(alloc, &s, columns.as_slice(), mappings.as_slice())

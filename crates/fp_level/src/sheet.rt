@@ -19,7 +19,7 @@ pub struct Sheet {
 }
 
 /// The sheet of these entries.
-pub fn sheet(alloc: Global, g: &Grid, entries: &[Entry]) -> Result<Sheet, AllocError>
+pub fn sheet_of(alloc: Global, g: &Grid, entries: &[Entry]) -> Result<Sheet, AllocError>
     requires grid { IsGrid g.now }
     requires entries { length entries.now ≡ length (cells_of g.now) }
     ensures grid { IfOk result (λ s. s.grid ≡ g.now) }
