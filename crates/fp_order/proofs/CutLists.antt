@@ -73,31 +73,36 @@ so_far_more m rest i front x l s =
     let a : take (suc i) rest ≡ take i rest ++ (x ∷ []) = take-suc rest i x l ∙ ap (λ (y : List ℕ). take i rest ++ (y ∷ [])) (sym s) in
     rw (add-one, a) (simp (map-append, append_assoc) refl)
 
-pub later_pushed : (m : ℕ) (rest : List (List ℕ)) (i : ℕ) (front : List (List ℕ)) (x v : List ℕ) (out : List (List ℕ)) → i < length rest → x ≡ get_or rest i x →
-    out ≡ take 256 (so_far m rest i front) → length out < 256 → v ≡ m ∷ x → out ++ v ∷ [] ≡ take 256 (so_far m rest (i + 1) front)
-later_pushed m rest i front x v out l s inv room same =
-    rw (so_far_more m rest i front x l s, same) (cut_more 256 out (so_far m rest i front) (m ∷ x) inv room)
+pub later_pushed : (k m : ℕ) (rest : List (List ℕ)) (i : ℕ) (front : List (List ℕ)) (x v : List ℕ) (out : List (List ℕ)) → i < length rest → x ≡ get_or rest i x →
+    out ≡ take k (so_far m rest i front) → length out < k → v ≡ m ∷ x → out ++ v ∷ [] ≡ take k (so_far m rest (i + 1) front)
+later_pushed k m rest i front x v out l s inv room same =
+    rw (so_far_more m rest i front x l s, same) (cut_more k out (so_far m rest i front) (m ∷ x) inv room)
 
-pub later_full : (m : ℕ) (rest : List (List ℕ)) (i : ℕ) (front : List (List ℕ)) (x : List ℕ) (out : List (List ℕ)) → i < length rest → x ≡ get_or rest i x →
-    out ≡ take 256 (so_far m rest i front) → 256 ≤ length out → out ≡ take 256 (so_far m rest (i + 1) front)
-later_full m rest i front x out l s inv full =
-    rw (so_far_more m rest i front x l s) (cut_full 256 out (so_far m rest i front) (m ∷ x) inv full)
+pub later_full : (k m : ℕ) (rest : List (List ℕ)) (i : ℕ) (front : List (List ℕ)) (x : List ℕ) (out : List (List ℕ)) → i < length rest → x ≡ get_or rest i x →
+    out ≡ take k (so_far m rest i front) → k ≤ length out → out ≡ take k (so_far m rest (i + 1) front)
+later_full k m rest i front x out l s inv full =
+    rw (so_far_more m rest i front x l s) (cut_full k out (so_far m rest i front) (m ∷ x) inv full)
 
-pub take_all : (m : ℕ) (rest : List (List ℕ)) (i : ℕ) (out : List (List ℕ)) → length rest ≤ i →
-    out ≡ take 256 (so_far m rest i (prefixed m rest)) → out ≡ take 256 (prefixed (m + 1) rest)
-take_all m rest i out l inv = rw add-one (rw (take_short i rest l) at inv)
+pub take_all : (k m : ℕ) (rest : List (List ℕ)) (i : ℕ) (out : List (List ℕ)) → length rest ≤ i →
+    out ≡ take k (so_far m rest i (prefixed m rest)) → out ≡ take k (prefixed (m + 1) rest)
+take_all k m rest i out l inv = rw add-one (rw (take_short i rest l) at inv)
 
--- a function more in front
-pub column_more : (functions : List ℕ) (i : ℕ) (out new : List (List ℕ)) → i < length functions →
-    out ≡ columns_of (drop (length functions - i) functions) →
-    new ≡ take 256 (prefixed (get_or functions (length functions - 1 - i) 0) out) → new ≡ columns_of (drop (length functions - (i + 1)) functions)
-column_more functions i out new l inv s =
-    let j = length functions - 1 - i in
-    let a : length functions - (i + 1) ≡ j = omega arith in
-    let b : length functions - i ≡ suc j = omega arith in
-    let e : drop j functions ≡ get_or functions j 0 ∷ drop (suc j) functions = drop-cons functions j 0 (omega arith) in
-    let inv2 : out ≡ columns_of (drop (suc j) functions) = rw b at inv in
-    rw (a, e) (s ∙ (ap (λ (t : List (List ℕ)). take 256 (prefixed (get_or functions j 0) t)) inv2 ∙ prefixed_cut 256 (get_or functions j 0) (choices (drop (suc j) functions))))
+-- one number more in front
+pub choices_more : (k : ℕ) (counts : List ℕ) (i : ℕ) (out new : List (List ℕ)) → i < length counts →
+    out ≡ take k (choices (drop (length counts - i) counts)) →
+    new ≡ take k (prefixed (get_or counts (length counts - 1 - i) 0) out) → new ≡ take k (choices (drop (length counts - (i + 1)) counts))
+choices_more k counts i out new l inv s =
+    let j = length counts - 1 - i in
+    let a : length counts - (i + 1) ≡ j = omega arith in
+    let b : length counts - i ≡ suc j = omega arith in
+    let e : drop j counts ≡ get_or counts j 0 ∷ drop (suc j) counts = drop-cons counts j 0 (omega arith) in
+    let inv2 : out ≡ take k (choices (drop (suc j) counts)) = rw b at inv in
+    rw (a, e) (s ∙ (ap (λ (t : List (List ℕ)). take k (prefixed (get_or counts j 0) t)) inv2 ∙ prefixed_cut k (get_or counts j 0) (choices (drop (suc j) counts))))
+
+pub choices_none : (k : ℕ) → 0 < k → [] ∷ [] ≡ take k (choices [])
+choices_none zero l = absurd (omega arith)
+choices_none (suc zero) l = refl
+choices_none (suc (suc k)) l = refl
 
 prefixed_columns : (m n : ℕ) (functions : List ℕ) (lists : List (List ℕ)) → n ≤ m → All (IsColumn functions) lists → All (IsColumn (m ∷ functions)) (prefixed n lists)
 prefixed_columns m zero functions lists l h = All-nil (IsColumn (m ∷ functions))
@@ -111,7 +116,7 @@ prefixed_columns m (suc n) functions lists l h =
       more : (c : List ℕ) → IsColumn functions c → IsColumn (m ∷ functions) (n ∷ c)
       more c s = record { len = omega (arith, s.len); below = first c s }
 
-choices_columns : (functions : List ℕ) → All (IsColumn functions) (choices functions)
+pub choices_columns : (functions : List ℕ) → All (IsColumn functions) (choices functions)
 choices_columns [] = All-cons (IsColumn []) [] [] (record { len = refl; below = λ f k. absurd (omega arith) }) (All-nil (IsColumn []))
 choices_columns (n ∷ ns) = prefixed_columns n n ns (choices ns) (omega arith) (choices_columns ns)
 

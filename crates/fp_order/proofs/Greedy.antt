@@ -70,13 +70,13 @@ none_marked Leq p None h k = refl
 none_marked Unknown p None h k = refl
 none_marked e p (Some i) h k = cc
 
-left_marked : (e : ℕ → ℕ → Entry) (c p : ℕ) (old new : List (Option ℕ)) → IsMarked e c p old new → (r : ℕ) → IsLeft new r → Rest e (IsLeft old) c r
+pub left_marked : (e : ℕ → ℕ → Entry) (c p : ℕ) (old new : List (Option ℕ)) → IsMarked e c p old new → (r : ℕ) → IsLeft new r → Rest e (IsLeft old) c r
 left_marked e c p old new m r h =
     let k : r < length old = omega (arith, h.0, m.len) in
     let t = marked_none (e c r) p (get_or old r None) (sym (m.each r k) ∙ h.1) in
     ((k, t.0), t.1)
 
-marked_left : (e : ℕ → ℕ → Entry) (c p : ℕ) (old new : List (Option ℕ)) → IsMarked e c p old new → (r : ℕ) → Rest e (IsLeft old) c r → IsLeft new r
+pub marked_left : (e : ℕ → ℕ → Entry) (c p : ℕ) (old new : List (Option ℕ)) → IsMarked e c p old new → (r : ℕ) → Rest e (IsLeft old) c r → IsLeft new r
 marked_left e c p old new m r h =
     (omega (arith, h.0.0, m.len), m.each r h.0.0 ∙ none_marked (e c r) p (get_or old r None) h.0.1 h.1)
 

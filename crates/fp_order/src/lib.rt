@@ -9,7 +9,7 @@ mod matrix;
 mod numbering;
 mod search;
 
-pub use choices::columns;
+pub use choices::{columns, first_choices};
 pub use entry::Entry;
 pub use grid::{Cell, Grid};
 pub use items::Items;

@@ -3,7 +3,7 @@ use Rattle.fp_order.specs.Grid.{prefixed}
 use Rattle.fp_order.proofs.choices.prepend.Given as goal
 
 abbrev pub invariant-loop-later : goal.invariant-loop-later
-invariant-loop-later l = l.all.items ≡ take 256 (prefixed l.measure l.rest ++ map (λ xs. l.measure ∷ xs) (take l.later-index l.rest))
+invariant-loop-later l = l.all.items ≡ take l.limit (prefixed l.number l.rest ++ map (λ xs. l.number ∷ xs) (take l.later-index l.rest))
 
-abbrev pub invariant-loop-measure : goal.invariant-loop-measure
-invariant-loop-measure l = l.all.items ≡ take 256 (prefixed l.measure l.rest)
+abbrev pub invariant-loop-number : goal.invariant-loop-number
+invariant-loop-number l = l.all.items ≡ take l.limit (prefixed l.number l.rest)
