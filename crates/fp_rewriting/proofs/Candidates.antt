@@ -1,15 +1,14 @@
 -- No rule fits a term but those with the constant at its head.
-use Rattle.std.proofs.Common.{◌≡◌, ℕ, Bool, true, false, cond, List, [], ◌∷◌, ◌++◌, refl, ap, sym, ◌∙◌}
+use Rattle.std.proofs.Common.{◌≡◌, ℕ, Bool, true, false, cond, List, [], ◌∷◌, refl}
 use Rattle.std.specs.Prelude.{Option, Some, None, is_some}
-use Rattle.std.specs.Str.{bytes_eq}
 use Rattle.std.proofs.lemmas.Slice.Eq.{bytes_eq-Decides}
 use Rattle.fp_term.specs.Types.{Typ}
 use Rattle.fp_term.specs.Terms.{Tm, bound, free, constant, app, abs, replaced, retyped_term}
 use Rattle.fp_match.specs.Instances.{IsTermInstance}
 use Rattle.fp_rewriting.specs.declared.left.Left.{Left}
 use Rattle.fp_rewriting.specs.declared.rule.Rule.{Rule}
-use Rattle.fp_rewriting.specs.Simplification.{Known, made_at_once, FindsRule, no_rule, too_deep, no_instance, used, unused}
-use Rattle.fp_rewriting.specs.Candidates.{head_constant, is_head, with_head, with_head_of, candidates, AreHeaded}
+use Rattle.fp_rewriting.specs.Simplification.{Known, FindsRule, no_rule, too_deep, no_instance, used, unused}
+use Rattle.fp_rewriting.specs.Candidates.{head_constant, is_head, with_head, with_head_of, AreHeaded}
 
 by_test : (b : Bool) (P : Type 0) → (b ≡ true → P) → (b ≡ false → P) → P
 by_test true P f g = f refl

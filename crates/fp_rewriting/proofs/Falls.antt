@@ -1,7 +1,7 @@
 -- Fuel and room never rise, and each entry is counted.
-use Rattle.std.proofs.Common.{◌≡◌, ◌≤◌, ◌-◌, ◌+◌, ℕ, Bool, List, arith}
+use Rattle.std.proofs.Common.{◌≤◌, ℕ, Bool, List, arith}
 use Rattle.std.specs.Prelude.{Option}
-use Rattle.fp_term.specs.Terms.{Tm, size_of}
+use Rattle.fp_term.specs.Terms.{Tm}
 use Rattle.fp_rewriting.specs.declared.left.Left.{Left}
 use Rattle.fp_rewriting.specs.declared.rule.Rule.{Rule}
 use Rattle.fp_rewriting.specs.Spending.{stepped, paid, emptied}

@@ -1,5 +1,5 @@
 -- The name with which an abstraction is opened is the first that isn't taken.
-use Rattle.std.proofs.Common.{◌≡◌, ◌≤◌, ◌<◌, ◌+◌, ◌-◌, ◌^◌, ◌∙◌, ℕ, zero, suc, Bool, true, false, List, length, refl, sym, ap, arith}
+use Rattle.std.proofs.Common.{◌≡◌, ◌≤◌, ◌<◌, ◌+◌, ◌-◌, ◌^◌, ◌∙◌, ℕ, zero, suc, Bool, true, false, List, length, refl, arith}
 use Rattle.fp_term.specs.Terms.{Tm, size_of}
 use Rattle.fp_rewriting.specs.Fresh.{opening_name, is_taken, first_untaken, fresh_name, IsFirstUntaken}
 use Rattle.fp_rewriting.proofs.Pigeons.{fresh_untaken}

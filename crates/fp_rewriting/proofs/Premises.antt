@@ -1,5 +1,5 @@
 -- One premise more is taken off.
-use Rattle.std.proofs.Common.{◌≡◌, Bool, true, false, cond, List, [], ◌∷◌, refl, ap}
+use Rattle.std.proofs.Common.{◌≡◌, Bool, true, false, cond, [], ◌∷◌, refl, ap}
 use Rattle.std.specs.Prelude.{Option, Some, None, codes}
 use Rattle.fp_term.specs.Terms.{Tm, bound, free, constant, app, abs, term_eq}
 use Rattle.fp_conclude.specs.Logic.{connective}

@@ -1,10 +1,8 @@
 -- Each question has exactly one answer, and it leaves no more than there was.
-use Rattle.std.proofs.Common.{◌≡◌, ◌≤◌, ℕ, []}
-use Rattle.fp_term.specs.Terms.{Tm}
-use Rattle.fp_rewriting.specs.declared.left.Left.{Left}
+use Rattle.std.proofs.Common.{[]}
 use Rattle.fp_rewriting.specs.Facts.{names_of}
-use Rattle.fp_rewriting.specs.Settling.{Question, IsSimplified, Settles}
-use Rattle.fp_rewriting.specs.Laws.{HasResult, HasOneResult, AreSame, OnlyFalls, NeverRises}
+use Rattle.fp_rewriting.specs.Settling.{Question, IsSimplified}
+use Rattle.fp_rewriting.specs.Laws.{HasResult, HasOneResult, OnlyFalls}
 use Rattle.fp_rewriting.proofs.Settles.{Come, settles, settles_falls, one_settled}
 
 pub has_result : (q : Question) → HasResult q

@@ -1,10 +1,10 @@
 -- Each question has one answer.
-use Rattle.std.proofs.Common.{◌≡◌, ℕ, List, [], ◌∷◌}
+use Rattle.std.proofs.Common.{List, [], ◌∷◌}
 use Rattle.fp_term.specs.Terms.{Tm}
 use Rattle.fp_rewriting.specs.declared.left.Left.{Left}
 use Rattle.fp_rewriting.specs.Spending.{stepped}
-use Rattle.fp_rewriting.specs.Simplification.{Known, Simplifies}
-use Rattle.fp_rewriting.specs.Settling.{Question, IsSimplified, Settles, of_goal, of_guard, with_facts}
+use Rattle.fp_rewriting.specs.Simplification.{Known}
+use Rattle.fp_rewriting.specs.Settling.{Settles, of_goal, of_guard, with_facts}
 use Rattle.fp_rewriting.proofs.Falls.{Falls, falls_on, later, simplifies_falls}
 use Rattle.fp_rewriting.proofs.Unique.{Same, one_simplified}
 use Rattle.fp_rewriting.proofs.Total.{Simplified}

@@ -1,5 +1,5 @@
 -- Each term simplifies.
-use Rattle.std.proofs.Common.{◌≡◌, ◌≤◌, ◌<◌, ◌-◌, ◌+◌, ◌&&◌, ◌==◌, max, ℕ, zero, suc, Bool, true, false, cond, List, [], ◌∷◌, map, refl, ap, sym, arith}
+use Rattle.std.proofs.Common.{◌≡◌, ◌≤◌, ◌<◌, ◌+◌, ◌&&◌, ◌==◌, ℕ, zero, suc, Bool, true, false, cond, List, [], ◌∷◌, map, refl, arith}
 use Rattle.std.specs.Prelude.{Option, Some, None, nat_le}
 use Rattle.fp_term.specs.Types.{Typ}
 use Rattle.fp_term.specs.Terms.{Tm, bound, free, constant, app, abs, size_of, opened, term_eq}
@@ -14,7 +14,7 @@ use Rattle.fp_rewriting.specs.declared.rule.Rule.{Rule}
 use Rattle.fp_rewriting.specs.Fresh.{fresh_name}
 use Rattle.fp_rewriting.specs.Spending.{stepped, paid, emptied, affords}
 use Rattle.fp_rewriting.specs.Simplification.{Known, Matches, instance, is_too_deep, has_any, made_at_once, Simplifies, Rewrites, Goes, Finds, FindsRule, Hold, abstraction, application, other, rewriting, stays, ends, continues, no_fuel, at_once, by_rules, no_rule, too_deep, no_instance, used, unused, all_hold, fails, holds}
-use Rattle.fp_rewriting.proofs.Falls.{simplifies_falls, finds_falls, rule_falls, hold_falls}
+use Rattle.fp_rewriting.proofs.Falls.{simplifies_falls, finds_falls, hold_falls}
 
 pub record Simplified (k : Known) (d : ℕ) (l : Left) (t : Tm) : Type 0 where
   pub term : Tm
@@ -153,7 +153,7 @@ module _ (k : Known) (d F : ℕ) (deeper : nat_le 3 d ≡ false → (l : Left) (
         let b : Simplified k d a.left x = walk_total S x (omega arith) a.left (omega (arith, less.fuel)) in
         let less' = simplifies_falls b.by in
         let c : Rewritten k d b.left (app a.term b.term) = rewritten_total (app a.term b.term) b.left (omega (arith, less.fuel, less'.fuel)) in
-        record { term = c.term; left = c.left; by = application f x a.term b.term c.term a.by b.by c.by }
+        record { term = c.term; left = c.left; by = application {o = c.left} f x a.term b.term c.term a.by b.by c.by }
     walk_total (suc S) (abs s x) small l h =
         let w = fresh_name k.names (abs s x) in
         let e = opened_size 0 w s x in

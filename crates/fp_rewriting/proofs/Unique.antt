@@ -1,14 +1,13 @@
 -- A term simplifies in one way only.
-use Rattle.std.proofs.Common.{◌≡◌, ◌≤◌, ◌-◌, ◌+◌, ℕ, Bool, true, false, List, [], ◌∷◌, map, refl, ap, sym, arith}
+use Rattle.std.proofs.Common.{◌≡◌, ℕ, Bool, true, false, List, [], ◌∷◌, map, refl, ap, sym}
 use Rattle.std.specs.Prelude.{Option, Some, None}
-use Rattle.fp_term.specs.Terms.{Tm, size_of, replaced, retyped_term, term_eq}
+use Rattle.fp_term.specs.Terms.{Tm}
 use Rattle.fp_match.specs.declared.inst.Inst.{Inst}
 use Rattle.fp_match.specs.Instances.{IsTermInstance}
 use Rattle.fp_match.proofs.Unique.{unique_instance}
-use Rattle.fp_conclude.specs.Logic.{true_constant}
 use Rattle.fp_rewriting.specs.declared.left.Left.{Left}
 use Rattle.fp_rewriting.specs.declared.rule.Rule.{Rule}
-use Rattle.fp_rewriting.specs.Spending.{stepped, paid, emptied}
+use Rattle.fp_rewriting.specs.Spending.{emptied}
 use Rattle.fp_rewriting.specs.Simplification.{Known, Matches, instance, Simplifies, Rewrites, Goes, Finds, FindsRule, Hold, abstraction, application, other, rewriting, stays, ends, continues, no_fuel, at_once, by_rules, no_rule, too_deep, no_instance, used, unused, all_hold, fails, holds}
 
 pub record Same {A : Type 0} (a b : A) (l m : Left) : Type 0 where

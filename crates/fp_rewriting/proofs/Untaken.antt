@@ -1,7 +1,6 @@
 -- The search for a name that isn't taken, step by step.
-use Rattle.std.proofs.Common.{◌≡◌, ◌<◌, ◌-◌, ◌+◌, ◌||◌, ℕ, zero, suc, Bool, true, false, List, refl, ap, arith, length}
+use Rattle.std.proofs.Common.{◌≡◌, ◌<◌, ◌-◌, ◌+◌, ℕ, zero, suc, true, false, List, refl, arith}
 use Rattle.fp_term.specs.Terms.{Tm}
-use Rattle.fp_term.specs.Variables.{free_names, is_among}
 use Rattle.fp_rewriting.specs.Fresh.{opening_name, is_taken, first_untaken}
 
 pub untaken_here : (tries : ℕ) (names : List (List ℕ)) (t : Tm) (n : ℕ) → is_taken names t (opening_name n) ≡ false → opening_name n ≡ first_untaken tries names t n

@@ -1,5 +1,5 @@
 -- What is true of every simplification.
-use Rattle.std.specs.Prelude.{◌≡◌, ◌≤◌, ℕ}
+use Rattle.std.specs.Prelude.{◌≡◌, ◌≤◌}
 use Rattle.fp_term.specs.Terms.{Tm}
 use Rattle.fp_rewriting.specs.declared.left.Left.{Left}
 use Rattle.fp_rewriting.specs.Settling.{Question, IsSimplified}

@@ -1,5 +1,5 @@
 -- The rule that the conclusion of a theorem states.
-use Rattle.std.specs.Prelude.{ℕ, Bool, true, false, ◌&&◌, if◌then◌else◌, List, [], ◌∷◌, Option, Some, None, is_some, codes}
+use Rattle.std.specs.Prelude.{ℕ, Bool, true, ◌&&◌, if◌then◌else◌, List, [], ◌∷◌, Option, Some, None, is_some, codes}
 use Rattle.std.specs.List.{list_all}
 use Rattle.fp_term.specs.Types.{Typ, Typs, variable, applied, none, more}
 use Rattle.fp_term.specs.Terms.{Tm, bound, free, constant, app, abs, term_eq}

@@ -1,8 +1,7 @@
 -- What a term simplifies to.
-use Rattle.std.specs.Prelude.{◌≡◌, ℕ, ◌+◌, Bool, true, false, ◌&&◌, ◌||◌, nat_le, if◌then◌else◌, List, [], ◌∷◌, ◌++◌, map, Option, Some, None}
-use Rattle.std.specs.Option.{option_map}
+use Rattle.std.specs.Prelude.{◌≡◌, ℕ, ◌+◌, Bool, true, false, ◌&&◌, nat_le, if◌then◌else◌, List, [], ◌∷◌, map, Option, Some, None}
 use Rattle.fp_term.specs.Types.{Typ}
-use Rattle.fp_term.specs.Terms.{Tm, bound, free, constant, app, abs, term_eq, opened, closed, replaced, retyped_term}
+use Rattle.fp_term.specs.Terms.{Tm, free, app, abs, term_eq, opened, closed, replaced, retyped_term}
 use Rattle.fp_match.specs.Instances.{IsInstanceBy, IsTermInstance, AreOwn}
 use Rattle.fp_match.specs.declared.inst.Inst.{Inst}
 use Rattle.fp_conclude.specs.Logic.{true_constant}

@@ -1,5 +1,5 @@
 -- What is left to spend, and what is spent.
-use Rattle.std.specs.Prelude.{ℕ, ◌+◌, ◌-◌, Bool, not, ◌&&◌, ◌==◌, nat_le}
+use Rattle.std.specs.Prelude.{◌+◌, ◌-◌, Bool, not, ◌&&◌, ◌==◌, nat_le}
 use Rattle.fp_term.specs.Terms.{Tm, size_of}
 use Rattle.fp_rewriting.specs.declared.left.Left.{Left}
 

@@ -13,7 +13,7 @@ use fp_term::{Term, same};
 use std::alloc::{AllocError, Global};
 
 /// Are conditions nested too deep for the rule?
-pub fn is_too_deep(depth: u32, rule: &Rule) -> bool
+pub(crate) fn is_too_deep(depth: u32, rule: &Rule) -> bool
     ensures { result ≡ is_too_deep depth rule.now }
 {
     depth >= 3 && !rule.conds.as_slice().is_empty()

@@ -15,7 +15,8 @@ fn opening_name(alloc: Global, number: u32) -> Result<Name, AllocError>
     numbered(alloc, &stem, number)
 }
 
-pub fn is_among(names: &[Name], name: &Name) -> bool
+/// Is the name one of those?
+pub(crate) fn is_among(names: &[Name], name: &Name) -> bool
     ensures { result ≡ is_among names.now name.now }
 {
     for known in names {

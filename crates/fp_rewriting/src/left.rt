@@ -8,8 +8,11 @@ use std::alloc::AllocError;
 /// What is left to spend, and how many steps were done.
 #[derive(Clone, Copy)]
 pub struct Left {
+    /// So many contractions and uses of rules.
     pub fuel: u32,
+    /// So many nodes of what they make.
     pub room: u32,
+    /// So many entries into terms, into their parts first and then to rewrite them.
     pub steps: u64,
 }
 

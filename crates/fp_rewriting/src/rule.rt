@@ -6,9 +6,11 @@ ghost use Rattle.fp_rewriting.specs.Candidates.{head_constant};
 use fp_term::{Items, Name, Node, Term, copy_all};
 use std::alloc::{AllocError, Global};
 
-/// Where the conditions hold, an instance of the left side may be replaced by that of the right side.
+/// A rule of conditional rewriting: where the instances of all conditions simplify to `T`, the instance of the left side
+/// becomes that of the right side.
 #[derive(Drop)]
 pub struct Rule {
+    /// The name of the theorem that states the rule.
     pub name: Name,
     pub conds: Items<Term>,
     pub lhs: Term,

@@ -68,6 +68,7 @@ impl RuleSet {
         Ok(RuleSet { rules, index })
     }
 
+    /// The rules in their order.
     pub fn as_slice(&self) -> &[Rule]
         ensures { result.now ≡ self.now }
     {

@@ -1,4 +1,4 @@
-use Rattle.std.proofs.Common.{◌≡◌, ◌∙◌, sym, ◌-◌, false, true, rules, arith}
+use Rattle.std.proofs.Common.{◌≡◌, ◌∙◌, sym, ◌-◌, false, true, arith}
 use Rattle.fp_rewriting.specs.Fresh.{opening_name, is_taken}
 use Rattle.fp_rewriting.proofs.Untaken.{untaken_here, taken_before, no_tries}
 use Rattle.fp_rewriting.proofs.fresh.first_untaken.Goals as goal

@@ -1,4 +1,4 @@
-use Rattle.std.proofs.Common.{◌≡◌, ◌∙◌}
+use Rattle.std.proofs.Common.{◌∙◌}
 use Rattle.fp_rewriting.proofs.Indexed.{copied}
 use Rattle.fp_rewriting.proofs.rules.RuleSet.copy.Goals as goal
 

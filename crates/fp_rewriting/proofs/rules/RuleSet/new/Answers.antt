@@ -1,5 +1,3 @@
-use Rattle.std.proofs.Common.{◌≡◌}
-use Rattle.fp_rewriting.specs.Index.{with_rules, tip}
 use Rattle.fp_rewriting.proofs.Indexed.{indexed}
 use Rattle.fp_rewriting.proofs.rules.RuleSet.new.Goals as goal
 
