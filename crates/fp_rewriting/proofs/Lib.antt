@@ -1,0 +1,12 @@
+pub mod Falls
+pub mod Unique
+pub mod Total
+pub mod Settles
+pub mod Untaken
+pub mod Pigeons
+pub mod Passing
+pub mod Candidates
+pub mod Indexed
+pub mod Premises
+pub mod FirstUntaken
+pub mod Results

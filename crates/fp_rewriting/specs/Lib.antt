@@ -1,0 +1,13 @@
+pub mod Spending
+pub mod Fresh
+pub mod Facts
+pub mod Simplification
+pub mod Settling
+pub mod Fitting
+pub mod Codes
+pub mod Candidates
+pub mod Reading
+pub mod Stated
+pub mod Index
+pub mod IndexView
+pub mod Laws

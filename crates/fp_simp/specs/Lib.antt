@@ -1,0 +1,10 @@
+pub mod Depth
+pub mod Waiting
+pub mod Known
+pub mod Remaining
+pub mod Results
+pub mod Tasks
+pub mod Observing
+pub mod Watching
+pub mod Verdicts
+pub mod Cutting
