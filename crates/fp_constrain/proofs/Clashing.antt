@@ -16,7 +16,7 @@ use Rattle.fp_unify.specs.General.{IsBest}
 use Rattle.fp_constrain.specs.Clash.{Gives, IsWanted, IsTyping, Satisfiable, Clashes, Solvable, Traces, Covers, CoversAll, Collects, CollectsAll, Further, Fixes, Wants, FirstUnsolvable}
 use Rattle.fp_constrain.specs.Subterms.{top, plain_option}
 use Rattle.fp_constrain.specs.Drafts.{Lays}
-use Rattle.fp_constrain.proofs.Laid.{solves_push, solves_pushed, grows_trans, grows_none}
+use Rattle.fp_constrain.proofs.Laid.{known_push, solves_push, solves_pushed, grows_trans, grows_none}
 use Rattle.fp_constrain.proofs.Drawn.{retyped_none, among_within, types_of_agree, top_last, grows_add}
 use Rattle.fp_term.specs.Signatures.{IsType}
 use Rattle.fp_term.specs.declared.signature.Signature.{Signature}
@@ -104,6 +104,7 @@ module _ (s : Signature) (g : Declarations) (given : List (List ℕ × Typ)) (wa
             let at_root : x.types root ≡ types (top 0 raw) = typed_as x.types ∙ x.here (top 0 raw) (omega arith) (omega (arith, top_last 0 raw)) in
             let y = wants.complete limit x.types x.solves (λ counts. subst (IsWanted s want) (sym at_root) (h.wanted counts)) in
             (y.types, y.solves, λ k less. y.agree (get_or seen k 0) (draws.sees.below k (omega arith) (omega arith)) ∙ x.here k (omega arith) (omega arith));
+        only = λ written functions given_known term_known want_known. wants.only written want_known (draws.only s written functions term_known (fixes.only s written given_known tt).1);
       }
 
 pub solvable_from : (limit : ℕ) (facts : List (ℕ × Fact)) (n : ℕ) (cells : List Shape) → IsSolution limit facts n cells → Solvable limit facts
@@ -205,16 +206,17 @@ module _ (names : List (List ℕ)) (all left : List (List ℕ × Typ)) (p : List
               solves = solves_push limit d.types 0 fact between d.solves (λ some. ap (λ (own : List ℕ → Typ). own p.0) same ∙ (e.meets some).0 ∙ sym (d.here ∙ retyped_none p.1));
               meets = λ some. rw same (e.meets some).1;
             };
+        only = λ s written known facts. let e = f.only s written known facts in (e.0.1, known_push s written 0 fact between (l.only s written e.0.0 e.1) tt);
       }
 
 pub fixes_none : (names : List (List ℕ)) (all : List (List ℕ × Typ)) (n : ℕ) (old : List (ℕ × Fact)) → AreAbout n old → Fixes names all all n old n old
 fixes_none names all n old about =
-    record { grows = grows_none n old about; sound = λ limit v some h rest. rest; complete = λ limit v h given. record { types = v; agree = λ i less. refl; solves = h; meets = given } }
+    record { grows = grows_none n old about; sound = λ limit v some h rest. rest; complete = λ limit v h given. record { types = v; agree = λ i less. refl; solves = h; meets = given }; only = λ s written known facts. (known, facts) }
 
 -- what is wanted of a type
 pub wants_none : (s : Signature) (step at n : ℕ) (old : List (ℕ × Fact)) → AreAbout n old → Wants s None step at n old n old
 wants_none s step at n old about =
-    record { grows = grows_none n old about; sound = λ limit v h counts. tt; complete = λ limit v h w. record { types = v; agree = λ i less. refl; solves = h; meets = tt } }
+    record { grows = grows_none n old about; sound = λ limit v h counts. tt; complete = λ limit v h w. record { types = v; agree = λ i less. refl; solves = h; meets = tt }; only = λ written known facts. facts }
 
 pub wants_never : (s : Signature) (w : Typ) (step at n : ℕ) (old : List (ℕ × Fact)) → AreAbout n old → (IsType s w → ⊥) → Wants s (Some w) step at n old n (old ++ (step, Never) ∷ [])
 wants_never s w step at n old about apart =
@@ -222,6 +224,7 @@ wants_never s w step at n old about apart =
       grows = grows_add n step Never old about tt;
       sound = λ limit v h counts. absurd ((solves_pushed limit v step Never old h).1 counts);
       complete = λ limit v h want. record { types = v; agree = λ i less. refl; solves = solves_push limit v step Never old h (λ counts. apart (want counts).1); meets = tt };
+      only = λ written known facts. known_push s written step Never old facts tt;
     }
 
 pub wants_type : (s : Signature) (w : Typ) (step at n : ℕ) (old : List (ℕ × Fact)) (m : ℕ) (mid : List (ℕ × Fact)) (node : ℕ) → at < n → IsType s w → Lays 0 [] w n old m mid node → Wants s (Some w) step at n old m (mid ++ (step, Same at node) ∷ [])
@@ -233,6 +236,7 @@ wants_type s w step at n old m mid node inside is l =
       complete = λ limit v h want.
           let e = l.complete limit v h in
           record { types = e.types; agree = e.agree; solves = solves_push limit e.types step fact mid e.solves (λ counts. e.agree at inside ∙ (want counts).0 ∙ sym (e.here ∙ retyped_none w)); meets = tt };
+      only = λ written known facts. known_push s written step fact mid (l.only s written (known is) facts) tt;
     }
 
 -- the same for what the program holds

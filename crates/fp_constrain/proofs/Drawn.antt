@@ -1,5 +1,5 @@
 -- Equations for a term come of those for its parts.
-use Rattle.std.proofs.Common.{◌≡◌, ◌∙◌, ◌<◌, ◌≤◌, ◌+◌, ℕ, zero, suc, true, false, cond, List, [], ◌∷◌, ◌++◌, length, get_or, ◌⊎◌, inl, inr, refl, sym, ap, arith}
+use Rattle.std.proofs.Common.{◌≡◌, ◌∙◌, ◌<◌, ◌≤◌, ◌+◌, ℕ, zero, suc, true, false, cond, List, [], ◌∷◌, ◌++◌, length, get_or, ◌⊎◌, inl, inr, subst, refl, sym, ap, arith}
 use Rattle.std.specs.Prelude.{Option, Some, None}
 use Rattle.std.specs.Option.{option_map}
 use Rattle.std.specs.List.{slice_get}
@@ -15,15 +15,15 @@ use Rattle.fp_raw.specs.Raws.{RawTyp, RawTm, raw_name, raw_bound, raw_free, raw_
 use Rattle.fp_constrain.specs.Subterms.{top, plain, plain_option}
 use Rattle.fp_constrain.specs.Rules.{Scope, is_named, innermost, NameHas, ConstantHas, BoundHas, IsWritten, Has}
 use Rattle.fp_unify.specs.Facts.{IsAbout, AreAbout}
-use Rattle.fp_constrain.specs.Drafts.{Grows, Lays, Leaf, WithWritten}
-use Rattle.fp_constrain.specs.Draws.{number_among, types_of, Binders, scope_types, BindersBelow, innermost_number, typing, Sees, Draws, Binds}
+use Rattle.fp_constrain.specs.Drafts.{Grows, Lays, Leaf, WithWritten, IsKnownType, IsKnownOption, IsKnownDeclared}
+use Rattle.fp_constrain.specs.Draws.{HasFunctions, IsKnownTerm, number_among, types_of, Binders, scope_types, BindersBelow, innermost_number, typing, Sees, Draws, Binds}
 use Rattle.fp_unify.specs.declared.fact.Fact.{Fact}
 use Rattle.fp_unify.specs.declared.fact.Fact.TheVariants.{IsCon, Same, Never}
 use Rattle.std.proofs.lemmas.List.{get_or_append_left, get_or_push}
 use Rattle.std.proofs.lemmas.Bool.{cases_lt}
 use Rattle.fp_unify.proofs.Ordered.{put, put_same}
 use Rattle.fp_constrain.proofs.Numbered.{leaf_push}
-use Rattle.fp_constrain.proofs.Laid.{solves_agree, about_more, about_push, solves_push, solves_pushed, solves_put, grows_push, grows_trans, put_agrees}
+use Rattle.fp_constrain.proofs.Laid.{known_push, solves_agree, about_more, about_push, solves_push, solves_pushed, solves_put, grows_push, grows_trans, put_agrees}
 
 -- what a constant is declared as
 pub declared_exact : (s : Signature) (exact : List (List ℕ × Typ)) (a : List ℕ) (t : Typ) → Some t ≡ found_type a exact → Some (exactly t) ≡ declarations s exact a
@@ -71,9 +71,16 @@ innermost_in v a [] = refl
 innermost_in v a (b ∷ binders) =
     elim (is_named b.0 a) as (λ r. cond r (Some (v b.1)) (innermost a (scope_types v binders)) ≡ option_map v (cond r (Some b.1) (innermost_number a binders))) [ true ↦ refl | false ↦ innermost_in v a binders ]
 
-leaf_map : (P Q : (ℕ → Typ) → Typ → Type 0) (step n : ℕ) (old : List (ℕ × Fact)) (m : ℕ) (new : List (ℕ × Fact)) (at : ℕ) → ((v : ℕ → Typ) (t : Typ) → P v t → Q v t) → ((v : ℕ → Typ) (t : Typ) → Q v t → P v t) → Leaf P step n old m new at → Leaf Q step n old m new at
-leaf_map P Q step n old m new at to from l =
-    record { grows = l.grows; inside = l.inside; sound = λ limit v some s below. to v (v at) (l.sound limit v some s below); complete = λ limit v t s h. l.complete limit v t s (λ below. from v t (h below)) }
+leaf_map : (P Q : (ℕ → Typ) → Typ → Type 0) (K L : Signature → List (List ℕ) → Type 0) (step n : ℕ) (old : List (ℕ × Fact)) (m : ℕ) (new : List (ℕ × Fact)) (at : ℕ) → ((v : ℕ → Typ) (t : Typ) → P v t → Q v t) → ((v : ℕ → Typ) (t : Typ) → Q v t → P v t) →
+    ((s : Signature) (written : List (List ℕ)) → L s written → K s written) → Leaf P K step n old m new at → Leaf Q L step n old m new at
+leaf_map P Q K L step n old m new at to from known l =
+    record {
+      grows = l.grows;
+      inside = l.inside;
+      sound = λ limit v some s below. to v (v at) (l.sound limit v some s below);
+      complete = λ limit v t s h. l.complete limit v t s (λ below. from v t (h below));
+      only = λ s written k facts. l.only s written (known s written k) facts;
+    }
 
 -- the numbers of the types of a term's subterms
 get_before : (xs : List ℕ) (y k : ℕ) → k < length xs → get_or (xs ++ y ∷ []) k 0 ≡ get_or xs k 0
@@ -124,11 +131,11 @@ module _ (g : Declarations) (vars : List ℕ → Typ) (types others : ℕ → Ty
 
 -- a term without parts
 module _ (g : Declarations) (names : List (List ℕ)) (binders : Binders) (step n : ℕ) (old : List (ℕ × Fact)) (m : ℕ) (new : List (ℕ × Fact)) (at : ℕ) where
-  draws_leaf : (P : (ℕ → Typ) → Typ → Type 0) (raw : RawTm) (before : List ℕ) → raw_size raw ≡ 1 → top step raw ≡ step →
+  draws_leaf : (P : (ℕ → Typ) → Typ → Type 0) (K : Signature → List (List ℕ) → Type 0) (raw : RawTm) (before : List ℕ) → raw_size raw ≡ 1 → top step raw ≡ step →
       ((v types : ℕ → Typ) (limit : ℕ) → (step < limit → P v (types step)) → Has g (types_of v names) types limit (scope_types v binders) step raw) →
       ((v types : ℕ → Typ) (limit : ℕ) → Has g (types_of v names) types limit (scope_types v binders) step raw → step < limit → P v (types step)) →
-      length before ≡ step → Leaf P step n old m new at → Draws g names binders raw step n old m new before (before ++ at ∷ []) at
-  draws_leaf P raw before one itself to from counted l =
+      ((s : Signature) (written : List (List ℕ)) → IsKnownTerm s written g raw → K s written) → length before ≡ step → Leaf P K step n old m new at → Draws g names binders raw step n old m new before (before ++ at ∷ []) at
+  draws_leaf P K raw before one itself to from known counted l =
       let last : get_or (before ++ at ∷ []) step 0 ≡ at = get_or_push before at 0 step counted in
       record {
         grows = l.grows;
@@ -144,6 +151,7 @@ module _ (g : Declarations) (names : List (List ℕ)) (binders : Binders) (step 
         complete = λ limit v types s h.
             let e = l.complete limit v (types step) s (from v types limit h) in
             record { types = e.types; agree = e.agree; solves = e.solves; here = λ k low high. let is : k ≡ step = omega (arith, one) in rw (is, last) e.here };
+        only = λ s written functions k facts. l.only s written (known s written k) facts;
       }
 
 -- a leaf for a name, by what the name is
@@ -151,23 +159,26 @@ module _ (g : Declarations) (names : List (List ℕ)) (binders : Binders) (a : L
   abbrev OfName : (ℕ → Typ) → Typ → Type 0
   OfName v t = NameHas (innermost a (scope_types v binders)) (g a) (types_of v names a) t
 
-  pub name_bound : (k : ℕ) → Some k ≡ innermost_number a binders → Leaf (λ v t. t ≡ v k) step n old m new at → Leaf OfName step n old m new at
+  abbrev KnownName : Signature → List (List ℕ) → Type 0
+  KnownName s written = IsKnownDeclared s written (g a)
+
+  pub name_bound : (k : ℕ) → Some k ≡ innermost_number a binders → Leaf (λ v t. t ≡ v k) (λ s written. Unit {0}) step n old m new at → Leaf OfName KnownName step n old m new at
   name_bound k e l =
       let is : (v : ℕ → Typ) → innermost a (scope_types v binders) ≡ Some (v k) = λ v. innermost_in v a binders ∙ ap (option_map v) (sym e) in
-      leaf_map _ OfName step n old m new at (λ v t h. rw (is v) h) (λ v t h. rw (is v) at h) l
+      leaf_map _ OfName _ KnownName step n old m new at (λ v t h. rw (is v) h) (λ v t h. rw (is v) at h) (λ s written k. tt) l
 
-  pub name_constant : (d : Declared) → None ≡ innermost_number a binders → Some d ≡ g a → Leaf (λ v t. IsDeclared d t) step n old m new at → Leaf OfName step n old m new at
+  pub name_constant : (d : Declared) → None ≡ innermost_number a binders → Some d ≡ g a → Leaf (λ v t. IsDeclared d t) (λ s written. IsKnownDeclared s written (Some d)) step n old m new at → Leaf OfName KnownName step n old m new at
   name_constant d e f l =
       let is : (v : ℕ → Typ) → innermost a (scope_types v binders) ≡ None = λ v. innermost_in v a binders ∙ ap (option_map v) (sym e) in
-      leaf_map _ OfName step n old m new at (λ v t h. rw (is v, ← f) h) (λ v t h. rw (is v, ← f) at h) l
+      leaf_map _ OfName _ KnownName step n old m new at (λ v t h. rw (is v, ← f) h) (λ v t h. rw (is v, ← f) at h) (λ s written k. subst (IsKnownDeclared s written) (sym f) k) l
 
-  pub name_free : None ≡ innermost_number a binders → None ≡ g a → Leaf (λ v t. t ≡ v (number_among names a)) step n old m new at → Leaf OfName step n old m new at
+  pub name_free : None ≡ innermost_number a binders → None ≡ g a → Leaf (λ v t. t ≡ v (number_among names a)) (λ s written. Unit {0}) step n old m new at → Leaf OfName KnownName step n old m new at
   name_free e f l =
       let is : (v : ℕ → Typ) → innermost a (scope_types v binders) ≡ None = λ v. innermost_in v a binders ∙ ap (option_map v) (sym e) in
-      leaf_map _ OfName step n old m new at (λ v t h. rw (is v, ← f) h) (λ v t h. rw (is v, ← f) at h) l
+      leaf_map _ OfName _ KnownName step n old m new at (λ v t h. rw (is v, ← f) h) (λ v t h. rw (is v, ← f) at h) (λ s written k. tt) l
 
-  pub draws_name : (p : ℕ) (before : List ℕ) → length before ≡ step → Leaf OfName step n old m new at → Draws g names binders (raw_name a p) step n old m new before (before ++ at ∷ []) at
-  draws_name p before counted l = draws_leaf g names binders step n old m new at OfName (raw_name a p) before refl refl (λ v types limit h. h) (λ v types limit h. h) counted l
+  pub draws_name : (p : ℕ) (before : List ℕ) → length before ≡ step → Leaf OfName KnownName step n old m new at → Draws g names binders (raw_name a p) step n old m new before (before ++ at ∷ []) at
+  draws_name p before counted l = draws_leaf g names binders step n old m new at OfName KnownName (raw_name a p) before refl refl (λ v types limit h. h) (λ v types limit h. h) (λ s written k. k) counted l
 
 -- the numbers for an application come of those for its parts
 module _ (f x : RawTm) (p step m k : ℕ) (before mid after : List ℕ) (of_f of_x : ℕ) (sf : Sees f step m before mid of_f) (sx : Sees x (step + raw_size f) k mid after of_x) (order : m ≤ k) where
@@ -279,6 +290,7 @@ module _ (g : Declarations) (names : List (List ℕ)) (binders : Binders) (n : �
                   parts f x p step m k before between after of_f of_x df.sees dx.sees dx.grows.later i (λ at. w at ≡ types i) low high (λ l. of_fun (get_or between i 0) (df.sees.below i low l) ∙ e.here i low l)
                   (λ r l. put_agrees d.types k t (get_or after i 0) (dx.sees.below i r l) ∙ d.here i r l) (λ is. put_same d.types k t ∙ ap types (sym is));
             };
+        only = λ s written functions known facts. known_push s written tag fact last (dx.only s written functions known.1 (df.only s written functions known.0 facts)) functions;
       }
 
   pub draws_abs : (a : Option (List ℕ)) (written : Option RawTyp) (x : RawTm) (p step : ℕ) (old : List (ℕ × Fact)) (m : ℕ) (mid : List (ℕ × Fact)) (of_a k : ℕ) (last : List (ℕ × Fact)) (of_x : ℕ) (before after : List ℕ) → Binds (plain_option written) n old m mid of_a →
@@ -317,6 +329,7 @@ module _ (g : Declarations) (names : List (List ℕ)) (binders : Binders) (n : �
               here = λ i low high.
                   places x step k before after of_x dx.sees i (λ at. w at ≡ types i) (omega arith) (λ l. put_agrees d.types k t (get_or after i 0) (dx.sees.below i low l) ∙ d.here i low l) (λ is. put_same d.types k t ∙ ap types (sym is));
             };
+        only = λ s written_names functions known facts. known_push s written_names tag fact last (dx.only s written_names functions known.1 (da.only s written_names known.0 facts)) functions;
       }
 
 -- the type of a bound variable
@@ -327,6 +340,7 @@ binds_any n old about =
       inside = omega arith;
       sound = λ limit v some s. tt;
       complete = λ limit v t s h. record { types = put v n t; agree = put_agrees v n t; solves = solves_agree n v (put v n t) (put_agrees v n t) limit old about s; here = put_same v n t };
+      only = λ s written known facts. facts;
     }
 
 pub binds_written : (ty : Typ) (n : ℕ) (old : List (ℕ × Fact)) (m : ℕ) (new : List (ℕ × Fact)) (at : ℕ) → Lays 0 [] ty n old m new at → Binds (Some ty) n old m new at
@@ -336,6 +350,7 @@ binds_written ty n old m new at l =
       inside = l.inside;
       sound = λ limit v some s. l.sound limit v some s ∙ retyped_none ty;
       complete = λ limit v t s h. let e = l.complete limit v s in record { types = e.types; agree = e.agree; solves = e.solves; here = e.here ∙ retyped_none ty ∙ sym h };
+      only = l.only;
     }
 
 -- one more equation about known types
@@ -343,9 +358,9 @@ pub grows_add : (n step : ℕ) (fact : Fact) (facts : List (ℕ × Fact)) → Ar
 grows_add n step fact facts h k = record { later = omega arith; keeps = λ limit v s. (solves_pushed limit v step fact facts s).0; about = about_push n step fact facts h k }
 
 -- a leaf with a written type
-pub leaf_written : (P : (ℕ → Typ) → Typ → Type 0) (ty : Typ) (step n : ℕ) (old : List (ℕ × Fact)) (m : ℕ) (mid : List (ℕ × Fact)) (at k : ℕ) (last : List (ℕ × Fact)) (node : ℕ) → Leaf P step n old m mid at → Lays 0 [] ty m mid k last node →
-    Leaf (λ v t. P v t × (t ≡ ty)) step n old k (last ++ (step, Same at node) ∷ []) at
-leaf_written P ty step n old m mid at k last node leaf l =
+pub leaf_written : (P : (ℕ → Typ) → Typ → Type 0) (K : Signature → List (List ℕ) → Type 0) (ty : Typ) (step n : ℕ) (old : List (ℕ × Fact)) (m : ℕ) (mid : List (ℕ × Fact)) (at k : ℕ) (last : List (ℕ × Fact)) (node : ℕ) → Leaf P K step n old m mid at → Lays 0 [] ty m mid k last node →
+    Leaf (λ v t. P v t × (t ≡ ty)) (λ s written. K s written × IsKnownType s written [] ty) step n old k (last ++ (step, Same at node) ∷ []) at
+leaf_written P K ty step n old m mid at k last node leaf l =
     let fact = Same at node in
     let inside : at < k = omega (arith, leaf.inside, l.grows.later) in
     record {
@@ -364,18 +379,20 @@ leaf_written P ty step n old m mid at k last node leaf l =
             solves = solves_push limit d.types step fact last d.solves (λ below. is ∙ (h below).1 ∙ sym (d.here ∙ retyped_none ty));
             here = is;
           };
+      only = λ s written known facts. known_push s written step fact last (l.only s written known.1 (leaf.only s written known.0 facts)) tt;
     }
 
-pub leaf_unwritten : (P : (ℕ → Typ) → Typ → Type 0) (step n : ℕ) (old : List (ℕ × Fact)) (m : ℕ) (new : List (ℕ × Fact)) (at : ℕ) → Leaf P step n old m new at → Leaf (λ v t. P v t × IsWritten None t) step n old m new at
-leaf_unwritten P step n old m new at l = leaf_map P _ step n old m new at (λ v t h. (h, tt)) (λ v t h. h.0) l
+pub leaf_unwritten : (P : (ℕ → Typ) → Typ → Type 0) (K : Signature → List (List ℕ) → Type 0) (step n : ℕ) (old : List (ℕ × Fact)) (m : ℕ) (new : List (ℕ × Fact)) (at : ℕ) → Leaf P K step n old m new at → Leaf (λ v t. P v t × IsWritten None t) (λ s written. K s written × IsKnownOption s written None) step n old m new at
+leaf_unwritten P K step n old m new at l = leaf_map P _ K _ step n old m new at (λ v t h. (h, tt)) (λ v t h. h.0) (λ s written k. k.0) l
 
-pub leaf_never : (step n : ℕ) (old : List (ℕ × Fact)) → AreAbout n old → Leaf (λ v t. ⊥) step n old (n + 1) (old ++ (step, Never) ∷ []) n
+pub leaf_never : (step n : ℕ) (old : List (ℕ × Fact)) → AreAbout n old → Leaf (λ v t. ⊥) (λ s written. Unit {0}) step n old (n + 1) (old ++ (step, Never) ∷ []) n
 leaf_never step n old about =
     record {
       grows = grows_push n step Never old about tt;
       inside = omega arith;
       sound = λ limit v some s below. (solves_pushed limit v step Never old s).1 below;
       complete = λ limit v t s h. record { types = put v n t; agree = put_agrees v n t; solves = solves_put limit v n t step Never old about s h; here = put_same v n t };
+      only = λ s written known facts. known_push s written step Never old facts tt;
     }
 
 -- the type of a bound number
@@ -393,29 +410,29 @@ module _ (g : Declarations) (names : List (List ℕ)) (binders : Binders) (step 
   bound_lacks v None t e h = h
   bound_lacks v (Some b) t e h = none-some b.1 e
 
-  pub draws_bound : (k p i : ℕ) (before : List ℕ) → length before ≡ step → Some i ≡ option_map (λ b. b.1) (slice_get binders k) → Leaf (λ v t. t ≡ v i) step n old m new at → Draws g names binders (raw_bound k p) step n old m new before (before ++ at ∷ []) at
+  pub draws_bound : (k p i : ℕ) (before : List ℕ) → length before ≡ step → Some i ≡ option_map (λ b. b.1) (slice_get binders k) → Leaf (λ v t. t ≡ v i) (λ s written. Unit {0}) step n old m new at → Draws g names binders (raw_bound k p) step n old m new before (before ++ at ∷ []) at
   draws_bound k p i before counted e l =
-      draws_leaf g names binders step n old m new at (λ v t. t ≡ v i) (raw_bound k p) before refl refl (λ v types limit h below. rw (bound_in v binders k, bound_has v k i (slice_get binders k) (types step) e) (h below))
-      (λ v types limit h below. rw (bound_in v binders k, bound_has v k i (slice_get binders k) (types step) e) at (h below)) counted l
+      draws_leaf g names binders step n old m new at (λ v t. t ≡ v i) (λ s written. Unit {0}) (raw_bound k p) before refl refl (λ v types limit h below. rw (bound_in v binders k, bound_has v k i (slice_get binders k) (types step) e) (h below))
+      (λ v types limit h below. rw (bound_in v binders k, bound_has v k i (slice_get binders k) (types step) e) at (h below)) (λ s written k. tt) counted l
 
-  pub draws_unbound : (k p : ℕ) (before : List ℕ) → length before ≡ step → None ≡ option_map (λ b. b.1) (slice_get binders k) → Leaf (λ v t. ⊥) step n old m new at → Draws g names binders (raw_bound k p) step n old m new before (before ++ at ∷ []) at
+  pub draws_unbound : (k p : ℕ) (before : List ℕ) → length before ≡ step → None ≡ option_map (λ b. b.1) (slice_get binders k) → Leaf (λ v t. ⊥) (λ s written. Unit {0}) step n old m new at → Draws g names binders (raw_bound k p) step n old m new before (before ++ at ∷ []) at
   draws_unbound k p before counted e l =
-      draws_leaf g names binders step n old m new at (λ v t. ⊥) (raw_bound k p) before refl refl (λ v types limit h below. absurd (h below)) (λ v types limit h below. bound_lacks v (slice_get binders k) (types step) e (rw (bound_in v binders k) at (h below)))
-      counted l
+      draws_leaf g names binders step n old m new at (λ v t. ⊥) (λ s written. Unit {0}) (raw_bound k p) before refl refl (λ v types limit h below. absurd (h below)) (λ v types limit h below. bound_lacks v (slice_get binders k) (types step) e (rw (bound_in v binders k) at (h below)))
+      (λ s written k. tt) counted l
 
-  pub draws_free : (a : List ℕ) (ty : RawTyp) (p : ℕ) (before : List ℕ) → length before ≡ step → Leaf (λ v t. (t ≡ v (number_among names a)) × (t ≡ plain ty)) step n old m new at → Draws g names binders (raw_free a ty p) step n old m new before (before ++ at ∷ []) at
-  draws_free a ty p before counted l = draws_leaf g names binders step n old m new at (λ v t. (t ≡ v (number_among names a)) × (t ≡ plain ty)) (raw_free a ty p) before refl refl (λ v types limit h. h) (λ v types limit h. h) counted l
+  pub draws_free : (a : List ℕ) (ty : RawTyp) (p : ℕ) (before : List ℕ) → length before ≡ step → Leaf (λ v t. (t ≡ v (number_among names a)) × (t ≡ plain ty)) (λ s written. Unit {0} × IsKnownType s written [] (plain ty)) step n old m new at → Draws g names binders (raw_free a ty p) step n old m new before (before ++ at ∷ []) at
+  draws_free a ty p before counted l = draws_leaf g names binders step n old m new at (λ v t. (t ≡ v (number_among names a)) × (t ≡ plain ty)) (λ s written. Unit {0} × IsKnownType s written [] (plain ty)) (raw_free a ty p) before refl refl (λ v types limit h. h) (λ v types limit h. h) (λ s written k. (tt, k)) counted l
 
-  pub draws_constant : (a : List ℕ) (ty : Option RawTyp) (p : ℕ) (before : List ℕ) → length before ≡ step → Leaf (λ v t. ConstantHas (g a) t × IsWritten (plain_option ty) t) step n old m new at →
+  pub draws_constant : (a : List ℕ) (ty : Option RawTyp) (p : ℕ) (before : List ℕ) → length before ≡ step → Leaf (λ v t. ConstantHas (g a) t × IsWritten (plain_option ty) t) (λ s written. IsKnownDeclared s written (g a) × IsKnownOption s written (plain_option ty)) step n old m new at →
       Draws g names binders (raw_constant a ty p) step n old m new before (before ++ at ∷ []) at
   draws_constant a ty p before counted l =
-      draws_leaf g names binders step n old m new at (λ v t. ConstantHas (g a) t × IsWritten (plain_option ty) t) (raw_constant a ty p) before refl refl (λ v types limit h. h) (λ v types limit h. h) counted l
+      draws_leaf g names binders step n old m new at (λ v t. ConstantHas (g a) t × IsWritten (plain_option ty) t) (λ s written. IsKnownDeclared s written (g a) × IsKnownOption s written (plain_option ty)) (raw_constant a ty p) before refl refl (λ v types limit h. h) (λ v types limit h. h) (λ s written k. k) counted l
 
-  pub constant_known : (d : Declared) (a : List ℕ) → Some d ≡ g a → Leaf (λ v t. IsDeclared d t) step n old m new at → Leaf (λ v t. ConstantHas (g a) t) step n old m new at
-  constant_known d a e l = leaf_map _ _ step n old m new at (λ v t h. rw (← e) h) (λ v t h. rw (← e) at h) l
+  pub constant_known : (d : Declared) (a : List ℕ) → Some d ≡ g a → Leaf (λ v t. IsDeclared d t) (λ s written. IsKnownDeclared s written (Some d)) step n old m new at → Leaf (λ v t. ConstantHas (g a) t) (λ s written. IsKnownDeclared s written (g a)) step n old m new at
+  constant_known d a e l = leaf_map _ _ _ _ step n old m new at (λ v t h. rw (← e) h) (λ v t h. rw (← e) at h) (λ s written k. subst (IsKnownDeclared s written) (sym e) k) l
 
-  pub constant_unknown : (a : List ℕ) → None ≡ g a → Leaf (λ v t. ⊥) step n old m new at → Leaf (λ v t. ConstantHas (g a) t) step n old m new at
-  constant_unknown a e l = leaf_map _ _ step n old m new at (λ v t h. absurd h) (λ v t h. rw (← e) at h) l
+  pub constant_unknown : (a : List ℕ) → None ≡ g a → Leaf (λ v t. ⊥) (λ s written. Unit {0}) step n old m new at → Leaf (λ v t. ConstantHas (g a) t) (λ s written. IsKnownDeclared s written (g a)) step n old m new at
+  constant_unknown a e l = leaf_map _ _ _ _ step n old m new at (λ v t h. absurd h) (λ v t h. rw (← e) at h) (λ s written k. tt) l
 
 -- a term with a written type
 pub draws_typed : (g : Declarations) (names : List (List ℕ)) (binders : Binders) (x : RawTm) (ty : RawTyp) (p step n : ℕ) (old : List (ℕ × Fact)) (m : ℕ) (mid : List (ℕ × Fact)) (of_x k : ℕ) (last : List (ℕ × Fact)) (node : ℕ) (before after : List ℕ) →
@@ -459,10 +476,12 @@ draws_typed g names binders x ty p step n old m mid of_x k last node before afte
                 places x step k before after of_x sees_x i (λ at. w at ≡ types i) (omega arith)
                 (λ l_in. put_agrees d.types k t (get_or after i 0) (sees_x.below i low l_in) ∙ d.agree (get_or after i 0) (dx.sees.below i low l_in) ∙ e.here i low l_in) (λ is_top. put_same d.types k t ∙ ap types (sym is_top));
           };
+      only = λ s written functions known facts.
+          known_push s written tag (Same k node) with_first (known_push s written tag first last (l.only s written known.1 (dx.only s written functions known.0 facts)) tt) tt;
     }
 
-pub leaf_at : (P : (ℕ → Typ) → Typ → Type 0) (step n : ℕ) (old : List (ℕ × Fact)) (m k : ℕ) (new last : List (ℕ × Fact)) (at here : ℕ) → Leaf P step n old m new at → k ≡ m → last ≡ new → here ≡ at → Leaf P step n old k last here
-leaf_at P step n old m k new last at here l k_is last_is here_is = rw (k_is, last_is, here_is) l
+pub leaf_at : (P : (ℕ → Typ) → Typ → Type 0) (K : Signature → List (List ℕ) → Type 0) (step n : ℕ) (old : List (ℕ × Fact)) (m k : ℕ) (new last : List (ℕ × Fact)) (at here : ℕ) → Leaf P K step n old m new at → k ≡ m → last ≡ new → here ≡ at → Leaf P K step n old k last here
+leaf_at P K step n old m k new last at here l k_is last_is here_is = rw (k_is, last_is, here_is) l
 
 pub binder_below : (n : ℕ) (a : List ℕ) (binders : Binders) (k : ℕ) → BindersBelow n binders → Some k ≡ innermost_number a binders → k < n
 binder_below n a [] k h e = absurd (none-some k (sym e))
@@ -498,9 +517,9 @@ pub typed_at : (g : Declarations) (names : List (List ℕ)) (binders : Binders) 
 typed_at g names binders x ty p step n tag old m mid of_x k between node count last at put_tag before after seen dx tag_is w put_is at_is count_is last_is seen_is =
     rw (count_is, last_is, seen_is, put_is, at_is, w.added, tag_is) (draws_typed g names binders x ty p step n old m mid of_x k w.middle node before after dx w.lays)
 
-pub written_at : (P : (ℕ → Typ) → Typ → Type 0) (ty : Typ) (step n tag : ℕ) (old : List (ℕ × Fact)) (m : ℕ) (mid : List (ℕ × Fact)) (at k : ℕ) (last : List (ℕ × Fact)) (node : ℕ) → Leaf P step n old m mid at → tag ≡ step → WithWritten tag at ty m mid k last node →
-    Leaf (λ v t. P v t × (t ≡ ty)) step n old k last at
-written_at P ty step n tag old m mid at k last node leaf tag_is w = rw (w.added, tag_is) (leaf_written P ty step n old m mid at k w.middle node leaf w.lays)
+pub written_at : (P : (ℕ → Typ) → Typ → Type 0) (K : Signature → List (List ℕ) → Type 0) (ty : Typ) (step n tag : ℕ) (old : List (ℕ × Fact)) (m : ℕ) (mid : List (ℕ × Fact)) (at k : ℕ) (last : List (ℕ × Fact)) (node : ℕ) → Leaf P K step n old m mid at → tag ≡ step → WithWritten tag at ty m mid k last node →
+    Leaf (λ v t. P v t × (t ≡ ty)) (λ s written. K s written × IsKnownType s written [] ty) step n old k last at
+written_at P K ty step n tag old m mid at k last node leaf tag_is w = rw (w.added, tag_is) (leaf_written P K ty step n old m mid at k w.middle node leaf w.lays)
 
 pub names_more : (n m : ℕ) (names : List (List ℕ)) → n ≤ m → length names < n → length names < m
 names_more n m names h k = omega arith
@@ -509,18 +528,19 @@ pub draws_of : (g : Declarations) (names : List (List ℕ)) (binders : Binders) 
     Draws g names binders whole step n old m new before after at
 draws_of g names binders raw whole step n old m new before after at e d = rw (← e) d
 
-pub leaf_given : (P : (ℕ → Typ) → Typ → Type 0) (w u : Option Typ) (step n : ℕ) (old : List (ℕ × Fact)) (m : ℕ) (new : List (ℕ × Fact)) (at : ℕ) → u ≡ w → Leaf (λ v t. P v t × IsWritten w t) step n old m new at → Leaf (λ v t. P v t × IsWritten u t) step n old m new at
-leaf_given P w u step n old m new at e l = rw e l
+pub leaf_given : (P : (ℕ → Typ) → Typ → Type 0) (K : Signature → List (List ℕ) → Type 0) (w u : Option Typ) (step n : ℕ) (old : List (ℕ × Fact)) (m : ℕ) (new : List (ℕ × Fact)) (at : ℕ) → u ≡ w → Leaf (λ v t. P v t × IsWritten w t) (λ s written. K s written × IsKnownOption s written w) step n old m new at → Leaf (λ v t. P v t × IsWritten u t) (λ s written. K s written × IsKnownOption s written u) step n old m new at
+leaf_given P K w u step n old m new at e l = rw e l
 
 -- a further type that is exactly a declared one
-pub leaf_exact : (ty : Typ) (step n : ℕ) (old : List (ℕ × Fact)) (k : ℕ) (mid : List (ℕ × Fact)) (known : ℕ) → Lays 0 [] ty n old k mid known → Leaf (λ v t. t ≡ ty) step n old (k + 1) (mid ++ (step, Same k known) ∷ []) k
+pub leaf_exact : (ty : Typ) (step n : ℕ) (old : List (ℕ × Fact)) (k : ℕ) (mid : List (ℕ × Fact)) (known : ℕ) → Lays 0 [] ty n old k mid known → Leaf (λ v t. t ≡ ty) (λ s written. IsKnownType s written [] ty) step n old (k + 1) (mid ++ (step, Same k known) ∷ []) k
 leaf_exact ty step n old k mid known l =
-    leaf_push (λ v t. t ≡ ty) step n old k mid known l.grows l.inside (λ limit v some s below. l.sound limit v some s ∙ retyped_none ty)
+    leaf_push (λ v t. t ≡ ty) (λ s written. IsKnownType s written [] ty) step n old k mid known l.grows l.inside (λ limit v some s below. l.sound limit v some s ∙ retyped_none ty)
     (λ limit v t s h. let e = l.complete limit v s in record { types = e.types; agree = e.agree; solves = e.solves; here = λ below. e.here ∙ retyped_none ty ∙ sym (h below) })
+    l.only
 
 pub exact_at : (ty : Typ) (step n : ℕ) (old : List (ℕ × Fact)) (k : ℕ) (mid : List (ℕ × Fact)) (known last : ℕ) (new : List (ℕ × Fact)) (at tag : ℕ) → Lays 0 [] ty n old k mid known → tag ≡ step → last ≡ k + 1 → new ≡ mid ++ (tag, Same k known) ∷ [] → at ≡ k →
-    Leaf (λ v t. t ≡ ty) step n old last new at
+    Leaf (λ v t. t ≡ ty) (λ s written. IsKnownType s written [] ty) step n old last new at
 exact_at ty step n old k mid known last new at tag l tag_is last_is new_is at_is = rw (last_is, new_is, at_is, tag_is) (leaf_exact ty step n old k mid known l)
 
-pub leaf_from : (P : (ℕ → Typ) → Typ → Type 0) (step tag n k : ℕ) (old first : List (ℕ × Fact)) (m : ℕ) (new : List (ℕ × Fact)) (at : ℕ) → Leaf P tag k first m new at → tag ≡ step → k ≡ n → first ≡ old → Leaf P step n old m new at
-leaf_from P step tag n k old first m new at l tag_is k_is first_is = rw (← tag_is, ← k_is, ← first_is) l
+pub leaf_from : (P : (ℕ → Typ) → Typ → Type 0) (K : Signature → List (List ℕ) → Type 0) (step tag n k : ℕ) (old first : List (ℕ × Fact)) (m : ℕ) (new : List (ℕ × Fact)) (at : ℕ) → Leaf P K tag k first m new at → tag ≡ step → k ≡ n → first ≡ old → Leaf P K step n old m new at
+leaf_from P K step tag n k old first m new at l tag_is k_is first_is = rw (← tag_is, ← k_is, ← first_is) l

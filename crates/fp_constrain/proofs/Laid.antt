@@ -1,12 +1,13 @@
 -- Equations that were added, and types that meet them.
-use Rattle.std.proofs.Common.{◌≡◌, ◌∙◌, ◌<◌, ◌≤◌, ◌+◌, ℕ, true, false, cond, List, [], ◌∷◌, ◌++◌, refl, sym, ap, arith, append_assoc, append-nil}
+use Rattle.std.proofs.Common.{◌≡◌, ◌∙◌, ◌<◌, ◌≤◌, ◌+◌, ℕ, true, false, cond, List, [], ◌∷◌, ◌++◌, length, refl, sym, ap, arith, append_assoc, append-nil}
 use Rattle.std.specs.Prelude.{Some, None}
 use Rattle.std.specs.Option.{option_map}
 use Rattle.std.specs.Str.{bytes_eq}
 use Rattle.std.proofs.lemmas.Option.{none-some, same_Some}
 use Rattle.fp_constrain.proofs.Choices.{chosen}
-use Rattle.fp_term.specs.Types.{Typ, Typs, variable, applied, none, more, found_type, type_or, all_retyped}
-use Rattle.fp_unify.specs.Facts.{types_at, Holds, Solves, AllBelow, IsAbout, AreAbout}
+use Rattle.fp_term.specs.Types.{Typ, Typs, variable, applied, none, more, found_type, type_or, count, all_retyped}
+use Rattle.fp_term.specs.declared.signature.Signature.{Signature}
+use Rattle.fp_unify.specs.Facts.{types_at, Holds, Solves, AllBelow, IsAbout, AreAbout, IsKnown, AreKnown}
 use Rattle.fp_constrain.specs.Drafts.{found_number, table_types, TableBelow, Grows, Lays, LaysAll}
 use Rattle.fp_unify.specs.declared.fact.Fact.{Fact}
 use Rattle.fp_unify.specs.declared.fact.Fact.TheVariants.{IsVar, IsCon, Same, Never}
@@ -65,6 +66,10 @@ pub about_push : (n step : ℕ) (fact : Fact) (facts : List (ℕ × Fact)) → A
 about_push n step fact [] h k = (k, tt)
 about_push n step fact (p ∷ facts) h k = (h.0, about_push n step fact facts h.1 k)
 
+pub known_push : (s : Signature) (written : List (List ℕ)) (step : ℕ) (fact : Fact) (facts : List (ℕ × Fact)) → AreKnown s written facts → IsKnown s written fact → AreKnown s written (facts ++ (step, fact) ∷ [])
+known_push s written step fact [] h k = (k, tt)
+known_push s written step fact (p ∷ facts) h k = (h.0, known_push s written step fact facts h.1 k)
+
 -- a further type, of which an equation is said
 pub grows_push : (n step : ℕ) (fact : Fact) (facts : List (ℕ × Fact)) → AreAbout n facts → IsAbout (n + 1) fact → Grows n facts (n + 1) (facts ++ (step, fact) ∷ [])
 grows_push n step fact facts h k =
@@ -100,6 +105,7 @@ lays_found_at step table a n old at h k e =
       inside = found_below n a table at k (sym e);
       sound = λ limit v below s. sym (is v);
       complete = λ limit v s. record { types = v; agree = λ i l. refl; solves = s; here = sym (is v) };
+      only = λ g written known facts. facts;
     }
 
 lays_variable_at : (step : ℕ) (table : List (List ℕ × ℕ)) (a : List ℕ) (n : ℕ) (old : List (ℕ × Fact)) → AreAbout n old → None ≡ found_number a table → Lays step table (variable a) n old (n + 1) (old ++ (step, IsVar n a) ∷ []) n
@@ -115,6 +121,7 @@ lays_variable_at step table a n old h e =
         solves = solves_put limit v n (variable a) step (IsVar n a) old h s (λ below. put_same v n (variable a));
         here = put_same v n (variable a) ∙ sym (is v);
       };
+      only = λ g written known facts. known_push g written step (IsVar n a) old facts (known (sym e));
     }
 
 lays_constructor_at : (step : ℕ) (table : List (List ℕ × ℕ)) (a : List ℕ) (args : Typs) (n : ℕ) (old : List (ℕ × Fact)) (m : ℕ) (mid : List (ℕ × Fact)) (all : List ℕ) →
@@ -136,17 +143,21 @@ lays_constructor_at step table a args n old m mid all l =
             solves = solves_put limit e.types m t step (IsCon m a all) mid l.grows.about e.solves (λ below. put_same e.types m t ∙ ap (applied a) (sym args_are));
             here = put_same e.types m t;
           };
+      only = λ g written known facts.
+          known_push g written step (IsCon m a all) mid (l.only g written known.1 facts) (known.0 ∙ ap Some (sym (rw l.put l.counted)));
     }
 
 pub lays_end : (step : ℕ) (table : List (List ℕ × ℕ)) (ts : Typs) (n : ℕ) (old : List (ℕ × Fact)) (before : List ℕ) → none ≡ ts → AreAbout n old → LaysAll step table ts n old n old before before
 lays_end step table ts n old before t_is h =
     rw (← t_is) (record {
       more = [];
+      counted = refl;
       put = sym (append-nil before);
       grows = grows_none n old h;
       inside = tt;
       sound = λ limit v below s. refl;
       complete = λ limit v s. record { types = v; agree = λ i l. refl; solves = s; here = refl };
+      only = λ g written known facts. facts;
     })
 
 lays_more_at : (step : ℕ) (table : List (List ℕ × ℕ)) (t : Typ) (ts : Typs) (n : ℕ) (old : List (ℕ × Fact)) (m : ℕ) (mid : List (ℕ × Fact)) (k : ℕ) (new : List (ℕ × Fact)) (at : ℕ) (before after : List ℕ) → TableBelow n table →
@@ -154,6 +165,7 @@ lays_more_at : (step : ℕ) (table : List (List ℕ × ℕ)) (t : Typ) (ts : Typ
 lays_more_at step table t ts n old m mid k new at before after h first rest =
     record {
       more = at ∷ rest.more;
+      counted = let e = rest.counted in omega arith;
       put = rest.put ∙ append_assoc before (at ∷ []) rest.more;
       grows = grows_trans n m k old mid new first.grows rest.grows;
       inside = (omega (arith, first.inside, rest.grows.later), rest.inside);
@@ -167,6 +179,7 @@ lays_more_at step table t ts n old m mid k new at before after h first rest =
             solves = g.solves;
             here = rw (g.agree at first.inside, e.here, g.here, table_agrees n v e.types e.agree table h) refl;
           };
+      only = λ g written known facts. rest.only g written known.1 (first.only g written known.0 facts);
     }
 
 pub lays_found : (step : ℕ) (table : List (List ℕ × ℕ)) (a : List ℕ) (t : Typ) (n : ℕ) (old : List (ℕ × Fact)) (at : ℕ) → variable a ≡ t → AreAbout n old → TableBelow n table → Some at ≡ found_number a table → Lays step table t n old n old at

@@ -8,9 +8,9 @@ use Rattle.fp_raw.specs.Raws.{RawTm, raw_name, raw_bound, raw_free, raw_constant
 use Rattle.fp_constrain.specs.Declarations.{Declarations}
 use Rattle.fp_constrain.specs.Subterms.{top}
 use Rattle.fp_constrain.specs.Rules.{Has}
-use Rattle.fp_constrain.specs.Drafts.{Grows}
-use Rattle.fp_constrain.specs.Draws.{typing, types_of}
-use Rattle.fp_unify.specs.Facts.{Solves, AreAbout}
+use Rattle.fp_constrain.specs.Drafts.{Grows, IsKnownType}
+use Rattle.fp_constrain.specs.Draws.{typing, types_of, HasFunctions, IsKnownTerm}
+use Rattle.fp_unify.specs.Facts.{Solves, AreAbout, AreKnown}
 use Rattle.fp_unify.specs.declared.fact.Fact.{Fact}
 
 -- the given variables have their types
@@ -70,6 +70,16 @@ pub record CollectsAll (old : List (List ℕ)) (all left : List (List ℕ × Typ
   pub kept : (a : List ℕ) → is_among old a ≡ true → is_among new a ≡ true
   pub covers : (names : List (List ℕ)) → ((a : List ℕ) → is_among new a ≡ true → is_among names a ≡ true) → CoversAll names left → CoversAll names all
 
+-- the given types are known
+abbrev pub AreKnownGiven : Signature → List (List ℕ) → List (List ℕ × Typ) → Type 0
+AreKnownGiven s written [] = Unit {0}
+AreKnownGiven s written (p ∷ given) = IsKnownType s written [] p.1 × AreKnownGiven s written given
+
+-- the names of the wanted type are written
+abbrev pub IsKnownWant : Signature → List (List ℕ) → Option Typ → Type 0
+IsKnownWant s written None = Unit {0}
+IsKnownWant s written (Some w) = IsType s w → IsKnownType s written [] w
+
 -- types that are as before below n, and meet the equations and a condition
 pub record Further (n : ℕ) (v : ℕ → Typ) (limit : ℕ) (facts : List (ℕ × Fact)) (P : (ℕ → Typ) → Type 0) : Type 0 where
   pub types : ℕ → Typ
@@ -82,12 +92,14 @@ pub record Fixes (names : List (List ℕ)) (all left : List (List ℕ × Typ)) (
   pub grows : Grows n old m new
   pub sound : (limit : ℕ) (v : ℕ → Typ) → 0 < limit → Solves limit v new → Gives (types_of v names) left → Gives (types_of v names) all
   pub complete : (limit : ℕ) (v : ℕ → Typ) → Solves limit v old → (0 < limit → Gives (types_of v names) all) → Further n v limit new (λ w. 0 < limit → Gives (types_of w names) left)
+  pub only : (s : Signature) (written : List (List ℕ)) → AreKnownGiven s written all → AreKnown s written old → AreKnownGiven s written left × AreKnown s written new
 
 -- equations say that a type is the wanted one
 pub record Wants (s : Signature) (want : Option Typ) (step at n : ℕ) (old : List (ℕ × Fact)) (m : ℕ) (new : List (ℕ × Fact)) : Type 0 where
   pub grows : Grows n old m new
   pub sound : (limit : ℕ) (v : ℕ → Typ) → Solves limit v new → step < limit → IsWanted s want (v at)
   pub complete : (limit : ℕ) (v : ℕ → Typ) → Solves limit v old → (step < limit → IsWanted s want (v at)) → Further n v limit new (λ w. Unit {0})
+  pub only : (written : List (List ℕ)) → IsKnownWant s written want → AreKnown s written old → AreKnown s written new
 
 -- the equations have a solution at the one limit, and none at the other
 pub record FirstUnsolvable (facts : List (ℕ × Fact)) (low high : ℕ) : Type 0 where
@@ -102,3 +114,4 @@ pub record Traces (s : Signature) (g : Declarations) (given : List (List ℕ × 
   pub sound : (limit : ℕ) (v : ℕ → Typ) → 0 < limit → Solves limit v facts → (vars : List ℕ → Typ) × IsTyping s g given want limit raw vars (typing v seen)
   pub complete : (limit : ℕ) (vars : List ℕ → Typ) (types : ℕ → Typ) → IsTyping s g given want limit raw vars types →
       (v : ℕ → Typ) × Solves limit v facts × ((k : ℕ) → k < raw_size raw → typing v seen k ≡ types k)
+  pub only : (written : List (List ℕ)) → HasFunctions s → AreKnownGiven s written given → IsKnownTerm s written g raw → IsKnownWant s written want → AreKnown s written facts

@@ -1,9 +1,12 @@
 -- Equations for types that are written or declared.
-use Rattle.std.specs.Prelude.{◌≡◌, ◌<◌, ◌≤◌, ◌+◌, ℕ, if◌then◌else◌, List, [], ◌∷◌, ◌++◌, Option, Some, None}
+use Rattle.std.specs.Prelude.{◌≡◌, ◌<◌, ◌≤◌, ◌+◌, ℕ, length, true, if◌then◌else◌, List, [], ◌∷◌, ◌++◌, Option, Some, None}
 use Rattle.std.specs.Str.{bytes_eq}
-use Rattle.fp_term.specs.Types.{Typ, Typs, retyped, all_retyped}
-use Rattle.fp_constrain.specs.Declarations.{Declared, IsDeclared}
-use Rattle.fp_unify.specs.Facts.{Solves, AreAbout, AllBelow, types_at}
+use Rattle.fp_term.specs.Types.{Typ, Typs, variable, applied, none, more, count, retyped, all_retyped}
+use Rattle.fp_term.specs.Variables.{is_among}
+use Rattle.fp_term.specs.Signatures.{arity_of, IsType}
+use Rattle.fp_term.specs.declared.signature.Signature.{Signature}
+use Rattle.fp_constrain.specs.Declarations.{Declared, exactly, instances, IsDeclared}
+use Rattle.fp_unify.specs.Facts.{Solves, AreAbout, AllBelow, types_at, AreKnown}
 use Rattle.fp_unify.specs.declared.fact.Fact.{Fact}
 use Rattle.fp_unify.specs.declared.fact.Fact.TheVariants.{Same}
 
@@ -20,6 +23,26 @@ table_types v (p ∷ table) = (p.0, v p.1) ∷ table_types v table
 abbrev pub TableBelow : ℕ → List (List ℕ × ℕ) → Type 0
 TableBelow n [] = Unit {0}
 TableBelow n (p ∷ table) = (p.1 < n) × TableBelow n table
+
+-- the type's constructors are of the signature, and its names are of the table or written
+abbrev mutual
+  pub IsKnownType : Signature → List (List ℕ) → List (List ℕ × ℕ) → Typ → Type 0
+  IsKnownType s written table (variable a) = found_number a table ≡ None → is_among written a ≡ true
+  IsKnownType s written table (applied a ts) = (arity_of a s.types ≡ Some (count ts)) × AreKnownTypes s written table ts
+
+  pub AreKnownTypes : Signature → List (List ℕ) → List (List ℕ × ℕ) → Typs → Type 0
+  AreKnownTypes s written table none = Unit {0}
+  AreKnownTypes s written table (more t ts) = IsKnownType s written table t × AreKnownTypes s written table ts
+
+abbrev pub IsKnownOption : Signature → List (List ℕ) → Option Typ → Type 0
+IsKnownOption s written None = Unit {0}
+IsKnownOption s written (Some t) = IsKnownType s written [] t
+
+-- so are the types of constants
+abbrev pub IsKnownDeclared : Signature → List (List ℕ) → Option Declared → Type 0
+IsKnownDeclared s written None = Unit {0}
+IsKnownDeclared s written (Some (exactly t)) = IsKnownType s written [] t
+IsKnownDeclared s written (Some (instances t)) = IsType s t
 
 -- types that are as before below n, meet the equations, and have this one at a number
 pub record Extended (n : ℕ) (v : ℕ → Typ) (limit : ℕ) (facts : List (ℕ × Fact)) (at : ℕ) (t : Typ) : Type 0 where
@@ -40,6 +63,7 @@ pub record Lays (step : ℕ) (table : List (List ℕ × ℕ)) (ty : Typ) (n : �
   pub inside : at < m
   pub sound : (limit : ℕ) (v : ℕ → Typ) → step < limit → Solves limit v new → v at ≡ retyped (table_types v table) ty
   pub complete : (limit : ℕ) (v : ℕ → Typ) → Solves limit v old → Extended n v limit new at (retyped (table_types v table) ty)
+  pub only : (s : Signature) (written : List (List ℕ)) → IsKnownType s written table ty → AreKnown s written old → AreKnown s written new
 
 pub record ExtendedAll (n : ℕ) (v : ℕ → Typ) (limit : ℕ) (facts : List (ℕ × Fact)) (all : List ℕ) (ts : Typs) : Type 0 where
   pub types : ℕ → Typ
@@ -51,10 +75,12 @@ pub record ExtendedAll (n : ℕ) (v : ℕ → Typ) (limit : ℕ) (facts : List (
 pub record LaysAll (step : ℕ) (table : List (List ℕ × ℕ)) (tys : Typs) (n : ℕ) (old : List (ℕ × Fact)) (m : ℕ) (new : List (ℕ × Fact)) (before after : List ℕ) : Type 0 where
   pub more : List ℕ
   pub put : after ≡ before ++ more
+  pub counted : length more ≡ count tys
   pub grows : Grows n old m new
   pub inside : AllBelow m more
   pub sound : (limit : ℕ) (v : ℕ → Typ) → step < limit → Solves limit v new → types_at v more ≡ all_retyped (table_types v table) tys
   pub complete : (limit : ℕ) (v : ℕ → Typ) → Solves limit v old → ExtendedAll n v limit new more (all_retyped (table_types v table) tys)
+  pub only : (s : Signature) (written : List (List ℕ)) → AreKnownTypes s written table tys → AreKnown s written old → AreKnown s written new
 
 -- the names with numbers from n on
 abbrev pub numbered : ℕ → List (List ℕ) → List (List ℕ × ℕ)
@@ -68,12 +94,13 @@ pub record ExtendedIf (step n : ℕ) (v : ℕ → Typ) (limit : ℕ) (facts : Li
   pub solves : Solves limit types facts
   pub here : step < limit → types at ≡ t
 
--- the type at the number of a subterm is any that meets P, where the rule of the subterm counts
-pub record Leaf (P : (ℕ → Typ) → Typ → Type 0) (step n : ℕ) (old : List (ℕ × Fact)) (m : ℕ) (new : List (ℕ × Fact)) (at : ℕ) : Type 0 where
+-- the type at the number of a subterm is any that meets P, where the rule of the subterm counts; where Q holds the equations are known
+pub record Leaf (P : (ℕ → Typ) → Typ → Type 0) (Q : Signature → List (List ℕ) → Type 0) (step n : ℕ) (old : List (ℕ × Fact)) (m : ℕ) (new : List (ℕ × Fact)) (at : ℕ) : Type 0 where
   pub grows : Grows n old m new
   pub inside : at < m
   pub sound : (limit : ℕ) (v : ℕ → Typ) → 0 < limit → Solves limit v new → step < limit → P v (v at)
   pub complete : (limit : ℕ) (v : ℕ → Typ) (t : Typ) → Solves limit v old → (step < limit → P v t) → Extended n v limit new at t
+  pub only : (s : Signature) (written : List (List ℕ)) → Q s written → AreKnown s written old → AreKnown s written new
 
 -- a written type was laid, and the type at a number is said to be the same
 pub record WithWritten (step at : ℕ) (ty : Typ) (n : ℕ) (old : List (ℕ × Fact)) (m : ℕ) (new : List (ℕ × Fact)) (node : ℕ) : Type 0 where
@@ -84,4 +111,4 @@ pub record WithWritten (step at : ℕ) (ty : Typ) (n : ℕ) (old : List (ℕ × 
 -- a further type as a constant has it; without a declaration nothing was added
 abbrev pub Finds : Option Declared → ℕ → ℕ → List (ℕ × Fact) → ℕ → List (ℕ × Fact) → Option ℕ → Type 0
 Finds d step n old m new None = (d ≡ None) × (m ≡ n) × (new ≡ old)
-Finds d step n old m new (Some at) = (s : Declared) × (d ≡ Some s) × Leaf (λ v t. IsDeclared s t) step n old m new at
+Finds d step n old m new (Some at) = (s : Declared) × (d ≡ Some s) × Leaf (λ v t. IsDeclared s t) (λ g written. IsKnownDeclared g written (Some s)) step n old m new at

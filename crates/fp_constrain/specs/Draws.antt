@@ -1,13 +1,16 @@
 -- Equations for written terms.
 use Rattle.std.specs.Prelude.{◌≡◌, ◌≤◌, ◌<◌, ◌+◌, ℕ, length, slice_index_or, if◌then◌else◌, List, [], ◌∷◌, Option, Some, None}
 use Rattle.std.specs.Str.{bytes_eq}
+use Rattle.fp_term.specs.Names.{function}
 use Rattle.fp_term.specs.Types.{Typ}
+use Rattle.fp_term.specs.Signatures.{arity_of}
+use Rattle.fp_term.specs.declared.signature.Signature.{Signature}
 use Rattle.fp_constrain.specs.Declarations.{Declared, exactly, instances, Declarations}
-use Rattle.fp_raw.specs.Raws.{RawTm, raw_size}
-use Rattle.fp_constrain.specs.Subterms.{top}
+use Rattle.fp_raw.specs.Raws.{RawTm, raw_name, raw_bound, raw_free, raw_constant, raw_app, raw_abs, raw_typed, raw_size}
+use Rattle.fp_constrain.specs.Subterms.{top, plain, plain_option}
 use Rattle.fp_constrain.specs.Rules.{Scope, is_named, IsWritten, Has}
-use Rattle.fp_unify.specs.Facts.{Solves}
-use Rattle.fp_constrain.specs.Drafts.{Extended, Grows}
+use Rattle.fp_unify.specs.Facts.{Solves, AreKnown}
+use Rattle.fp_constrain.specs.Drafts.{Extended, Grows, IsKnownType, IsKnownOption, IsKnownDeclared}
 use Rattle.fp_unify.specs.declared.fact.Fact.{Fact}
 
 -- the number of the first of the names that is this one, or one past the last
@@ -53,6 +56,20 @@ pub record Extends (n : ℕ) (v : ℕ → Typ) (limit : ℕ) (facts : List (ℕ 
   pub solves : Solves limit types facts
   pub here : (k : ℕ) → from ≤ k → k < to → types (slice_index_or seen k 0) ≡ chosen k
 
+-- the types that a term writes, and those of its constants, are known
+abbrev pub IsKnownTerm : Signature → List (List ℕ) → Declarations → RawTm → Type 0
+IsKnownTerm s written g (raw_name a at) = IsKnownDeclared s written (g a)
+IsKnownTerm s written g (raw_bound k at) = Unit {0}
+IsKnownTerm s written g (raw_free a t at) = IsKnownType s written [] (plain t)
+IsKnownTerm s written g (raw_constant a t at) = IsKnownDeclared s written (g a) × IsKnownOption s written (plain_option t)
+IsKnownTerm s written g (raw_app f x at) = IsKnownTerm s written g f × IsKnownTerm s written g x
+IsKnownTerm s written g (raw_abs a t x at) = IsKnownOption s written (plain_option t) × IsKnownTerm s written g x
+IsKnownTerm s written g (raw_typed x t at) = IsKnownTerm s written g x × IsKnownType s written [] (plain t)
+
+-- functions have two arguments
+abbrev pub HasFunctions : Signature → Type 0
+HasFunctions s = arity_of function s.types ≡ Some 2
+
 -- types meet the equations exactly where they come of types of subterms by which the term's typing rules hold
 pub record Draws (g : Declarations) (names : List (List ℕ)) (binders : Binders) (raw : RawTm) (step n : ℕ) (old : List (ℕ × Fact)) (m : ℕ) (new : List (ℕ × Fact)) (before after : List ℕ) (at : ℕ) : Type 0 where
   pub grows : Grows n old m new
@@ -60,6 +77,7 @@ pub record Draws (g : Declarations) (names : List (List ℕ)) (binders : Binders
   pub sees : Sees raw step m before after at
   pub sound : (limit : ℕ) (v : ℕ → Typ) → 0 < limit → Solves limit v new → Has g (types_of v names) (typing v after) limit (scope_types v binders) step raw
   pub complete : (limit : ℕ) (v types : ℕ → Typ) → Solves limit v old → Has g (types_of v names) types limit (scope_types v binders) step raw → Extends n v limit new after step (step + raw_size raw) types
+  pub only : (s : Signature) (written : List (List ℕ)) → HasFunctions s → IsKnownTerm s written g raw → AreKnown s written old → AreKnown s written new
 
 -- the type of a bound variable is any, or the written one
 pub record Binds (w : Option Typ) (n : ℕ) (old : List (ℕ × Fact)) (m : ℕ) (new : List (ℕ × Fact)) (at : ℕ) : Type 0 where
@@ -67,3 +85,4 @@ pub record Binds (w : Option Typ) (n : ℕ) (old : List (ℕ × Fact)) (m : ℕ)
   pub inside : at < m
   pub sound : (limit : ℕ) (v : ℕ → Typ) → 0 < limit → Solves limit v new → IsWritten w (v at)
   pub complete : (limit : ℕ) (v : ℕ → Typ) (t : Typ) → Solves limit v old → IsWritten w t → Extended n v limit new at t
+  pub only : (s : Signature) (written : List (List ℕ)) → IsKnownOption s written w → AreKnown s written old → AreKnown s written new

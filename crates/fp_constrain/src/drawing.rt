@@ -10,7 +10,7 @@ ghost use Rattle.fp_unify.specs.Facts.{AreAbout};
 ghost use Rattle.fp_raw.specs.Raws.{raw_name, raw_bound, raw_free, raw_constant, raw_app, raw_abs, raw_typed, raw_size};
 ghost use Rattle.fp_constrain.specs.Subterms.{plain, plain_option};
 ghost use Rattle.fp_constrain.specs.Rules.{innermost, NameHas, ConstantHas, IsWritten};
-ghost use Rattle.fp_constrain.specs.Drafts.{Leaf, Finds, Lays, WithWritten};
+ghost use Rattle.fp_constrain.specs.Drafts.{Leaf, Finds, IsKnownDeclared, IsKnownOption, Lays, WithWritten};
 ghost use Rattle.fp_constrain.specs.Draws.{number_among, innermost_number, scope_types, types_of, Binders, BindersBelow, Draws, Binds};
 ghost use Rattle.fp_constrain.specs.Binding.{binders_in, declared_in};
 
@@ -105,7 +105,7 @@ fn get(around: &Around<'_>, number: u32) -> Option<u32>
 fn never(draft: &mut Draft) -> Result<u32, AllocError>
     requires { AreAbout draft.old.next draft.old.facts.items }
     ensures step { IfOk result (λ _. draft.new.step ≡ draft.old.step) }
-    ensures leaf { IfOk result (λ at. Leaf (λ v t. ⊥) draft.old.step draft.old.next draft.old.facts.items draft.new.next draft.new.facts.items at) }
+    ensures leaf { IfOk result (λ at. Leaf (λ v t. ⊥) (λ g written. Unit {0}) draft.old.step draft.old.next draft.old.facts.items draft.new.next draft.new.facts.items at) }
 {
     let at = draft.fresh()?;
     draft.add(Fact::Never)?;
@@ -117,7 +117,7 @@ fn known(draft: &mut Draft, at: u32) -> Result<u32, AllocError>
     requires about { AreAbout draft.old.next draft.old.facts.items }
     requires inside { at < draft.old.next }
     ensures step { IfOk result (λ _. draft.new.step ≡ draft.old.step) }
-    ensures leaf { IfOk result (λ new. Leaf (λ v t. t ≡ v at) draft.old.step draft.old.next draft.old.facts.items draft.new.next draft.new.facts.items new) }
+    ensures leaf { IfOk result (λ new. Leaf (λ v t. t ≡ v at) (λ g written. Unit {0}) draft.old.step draft.old.next draft.old.facts.items draft.new.next draft.new.facts.items new) }
 {
     let new = same_as(draft, at)?;
     Ok(new)
@@ -160,7 +160,7 @@ fn name_type(
     requires names { length names.now < draft.old.next }
     requires few { length names.now < 4294967296 }
     ensures step { IfOk result (λ _. draft.new.step ≡ draft.old.step) }
-    ensures leaf { IfOk result (λ at. Leaf (λ v t. NameHas (innermost name.now (scope_types v (binders_in around.now))) (declared_in constants.now name.now) (types_of v names.now name.now) t) draft.old.step draft.old.next draft.old.facts.items draft.new.next draft.new.facts.items at) }
+    ensures leaf { IfOk result (λ at. Leaf (λ v t. NameHas (innermost name.now (scope_types v (binders_in around.now))) (declared_in constants.now name.now) (types_of v names.now name.now) t) (λ g written. IsKnownDeclared g written (declared_in constants.now name.now)) draft.old.step draft.old.next draft.old.facts.items draft.new.next draft.new.facts.items at) }
 {
     match innermost(around, name) {
         Some(at) => {
@@ -186,7 +186,7 @@ fn constant_type(
 ) -> Result<u32, AllocError>
     requires { AreAbout draft.old.next draft.old.facts.items }
     ensures step { IfOk result (λ _. draft.new.step ≡ draft.old.step) }
-    ensures leaf { IfOk result (λ at. Leaf (λ v t. ConstantHas (declared_in constants.now name.now) t) draft.old.step draft.old.next draft.old.facts.items draft.new.next draft.new.facts.items at) }
+    ensures leaf { IfOk result (λ at. Leaf (λ v t. ConstantHas (declared_in constants.now name.now) t) (λ g written. IsKnownDeclared g written (declared_in constants.now name.now)) draft.old.step draft.old.next draft.old.facts.items draft.new.next draft.new.facts.items at) }
 {
     match declared_type(alloc, constants, draft, name)? {
         Some(new) => Ok(new),
@@ -390,7 +390,7 @@ fn constant_leaf(
 ) -> Result<u32, AllocError>
     requires { AreAbout draft.old.next draft.old.facts.items }
     ensures step { IfOk result (λ _. draft.new.step ≡ draft.old.step) }
-    ensures leaf { IfOk result (λ at. Leaf (λ v t. ConstantHas (declared_in constants.now name.now) t × IsWritten (plain_option ty.now) t) draft.old.step draft.old.next draft.old.facts.items draft.new.next draft.new.facts.items at) }
+    ensures leaf { IfOk result (λ at. Leaf (λ v t. ConstantHas (declared_in constants.now name.now) t × IsWritten (plain_option ty.now) t) (λ g written. IsKnownDeclared g written (declared_in constants.now name.now) × IsKnownOption g written (plain_option ty.now)) draft.old.step draft.old.next draft.old.facts.items draft.new.next draft.new.facts.items at) }
 {
     let at = constant_type(alloc, constants, draft, name)?;
     match ty {

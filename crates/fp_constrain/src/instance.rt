@@ -2,10 +2,11 @@
 
 ghost use Rattle.std.specs.Prelude.{◌≡◌, ◌<◌, ◌+◌, ◌++◌, [], ◌∷◌, length, IfOk};
 ghost use Rattle.fp_term.specs.Types.{IsInstance};
+ghost use Rattle.fp_term.specs.Signatures.{IsType};
 ghost use Rattle.fp_term.specs.Variables.{type_names, all_type_names};
 ghost use Rattle.fp_unify.specs.declared.fact.Fact.TheVariants.{Same};
 ghost use Rattle.fp_unify.specs.Facts.{AreAbout};
-ghost use Rattle.fp_constrain.specs.Drafts.{numbered, Leaf};
+ghost use Rattle.fp_constrain.specs.Drafts.{numbered, Leaf, IsKnownType};
 
 use crate::draft::{Draft, lay};
 use fp_term::{Name, Ty, TyNode, Tys, TysNode};
@@ -74,7 +75,7 @@ pub(crate) fn instance_of(
 ) -> Result<u32, AllocError>
     requires { AreAbout draft.old.next draft.old.facts.items }
     ensures step { IfOk result (λ _. draft.new.step ≡ draft.old.step) }
-    ensures leaf { IfOk result (λ at. Leaf (λ v t. IsInstance declared.now t) draft.old.step draft.old.next draft.old.facts.items draft.new.next draft.new.facts.items at) }
+    ensures leaf { IfOk result (λ at. Leaf (λ v t. IsInstance declared.now t) (λ g written. IsType g declared.now) draft.old.step draft.old.next draft.old.facts.items draft.new.next draft.new.facts.items at) }
 {
     let mut table = Vec::new(alloc);
     number_names(draft, &mut table, declared)?;
@@ -87,7 +88,7 @@ pub(crate) fn instance_of(
 pub(crate) fn exactly(alloc: Global, draft: &mut Draft, declared: &Ty) -> Result<u32, AllocError>
     requires { AreAbout draft.old.next draft.old.facts.items }
     ensures step { IfOk result (λ _. draft.new.step ≡ draft.old.step) }
-    ensures leaf { IfOk result (λ at. Leaf (λ v t. t ≡ declared.now) draft.old.step draft.old.next draft.old.facts.items draft.new.next draft.new.facts.items at) }
+    ensures leaf { IfOk result (λ at. Leaf (λ v t. t ≡ declared.now) (λ g written. IsKnownType g written [] declared.now) draft.old.step draft.old.next draft.old.facts.items draft.new.next draft.new.facts.items at) }
 {
     let known = lay(alloc, draft, &[], declared)?;
     let at = same_as(draft, known)?;

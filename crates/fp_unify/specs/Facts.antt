@@ -1,6 +1,9 @@
 -- Equations over numbered types, and what solves them.
-use Rattle.std.specs.Prelude.{◌≡◌, ◌<◌, ℕ, List, [], ◌∷◌}
+use Rattle.std.specs.Prelude.{◌≡◌, ◌<◌, ℕ, true, List, [], ◌∷◌, length, Some}
 use Rattle.fp_term.specs.Types.{Typ, Typs, variable, applied, none, more}
+use Rattle.fp_term.specs.Variables.{is_among}
+use Rattle.fp_term.specs.Signatures.{arity_of}
+use Rattle.fp_term.specs.declared.signature.Signature.{Signature}
 use Rattle.fp_unify.specs.declared.fact.Fact.{Fact}
 use Rattle.fp_unify.specs.declared.fact.Fact.TheVariants.{IsVar, IsCon, Same, Never}
 
@@ -40,3 +43,14 @@ AreAbout n (p ∷ facts) = IsAbout n p.1 × AreAbout n facts
 -- no types meet the equations below the limit
 pub record Unsolvable (limit : ℕ) (facts : List (ℕ × Fact)) : Type 0 where
   pub never : (v : ℕ → Typ) → Solves limit v facts → ⊥
+
+-- the equation has written names, and type constructors of the signature
+abbrev pub IsKnown : Signature → List (List ℕ) → Fact → Type 0
+IsKnown s written (IsVar at name) = is_among written name ≡ true
+IsKnown s written (IsCon at name args) = arity_of name s.types ≡ Some (length args)
+IsKnown s written (Same left right) = Unit {0}
+IsKnown s written Never = Unit {0}
+
+abbrev pub AreKnown : Signature → List (List ℕ) → List (ℕ × Fact) → Type 0
+AreKnown s written [] = Unit {0}
+AreKnown s written (p ∷ facts) = IsKnown s written p.1 × AreKnown s written facts

@@ -11,5 +11,5 @@ returns-in-Some-clause-leaf c =
 pub returns-in_ok-new-in-None-clause-leaf : goal.returns-in_ok-new-in-None-clause-leaf
 returns-in_ok-new-in-None-clause-leaf c =
     let f = rw c.in-None.is at c.in_ok-new.ensures.finds in
-    leaf_from _ _ _ _ _ _ _ _ _ _
+    leaf_from _ _ _ _ _ _ _ _ _ _ _
     (constant_unknown (declared_in c.args.constants.now) [] [] _ _ _ _ _ _ c.args.name.now (sym f.0) c.in_ok-new-in-None.ensures.leaf) c.in_ok-new.ensures.step f.1 f.2

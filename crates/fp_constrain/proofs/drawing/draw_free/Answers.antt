@@ -12,4 +12,4 @@ returns-clause-draws c = λ g binders p.
     let w = c.in_ok-also_written.ensures in
     let a = c.in_ok-advance.ensures in
     draws_at g c.args.names.now binders _ _ _ _ _ _ _ _ _ _ _ _
-    (draws_free g c.args.names.now binders _ _ _ _ _ _ c.args.name.now c.args.ty.now p _ c.requires.counted (written_at _ (plain c.args.ty.now) _ _ _ _ _ _ _ _ _ _ (rw c.number_among-number.ensures at k.leaf) k.step w.lays)) a.next a.facts a.seen
+    (draws_free g c.args.names.now binders _ _ _ _ _ _ c.args.name.now c.args.ty.now p _ c.requires.counted (written_at _ _ (plain c.args.ty.now) _ _ _ _ _ _ _ _ _ _ (rw c.number_among-number.ensures at k.leaf) k.step w.lays)) a.next a.facts a.seen

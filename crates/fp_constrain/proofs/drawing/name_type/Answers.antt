@@ -22,6 +22,6 @@ returns-in-Some-2-clause-leaf c =
 pub returns-in_ok-new-in-None-2-clause-leaf : goal.returns-in_ok-new-in-None-2-clause-leaf
 returns-in_ok-new-in-None-2-clause-leaf c =
     let f = rw c.in-None-2.is at c.in_ok-new-in-None.ensures.finds in
-    leaf_from _ _ _ _ _ _ _ _ _ _
+    leaf_from _ _ _ _ _ _ _ _ _ _ _
     (name_free (declared_in c.args.constants.now) c.args.names.now (binders_in c.args.around.now) c.args.name.now _ _ _ _ _ _ c.in-None.ensures (sym f.0)
     (rw c.number_among-number.ensures at c.in_ok-new-in-None-2.ensures.leaf)) c.in_ok-new-in-None.ensures.step f.1 f.2
