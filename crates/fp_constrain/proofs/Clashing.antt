@@ -87,13 +87,14 @@ module _ (s : Signature) (g : Declarations) (given : List (List ℕ × Typ)) (wa
         below = λ k less. omega (arith, wants.grows.later, draws.sees.below k (omega arith) (omega (arith, draws.sees.counted)));
         sound = λ limit v some h.
             let of_term_too = wants.grows.keeps limit v h in
-            let of_given_too = draws.grows.keeps limit v of_term_too in
-            (types_of v names,
-            record {
-              has = draws.sound limit v some of_term_too;
-              gives = λ some_too. fixes.sound limit v some of_given_too tt;
-              wanted = λ counts. subst (IsWanted s want) (typed_as v) (wants.sound limit v h counts);
-            });
+            let of_given_too = draws.grows.keeps limit v of_term_too in (
+              types_of v names,
+              record {
+                has = draws.sound limit v some of_term_too;
+                gives = λ some_too. fixes.sound limit v some of_given_too tt;
+                wanted = λ counts. subst (IsWanted s want) (typed_as v) (wants.sound limit v h counts);
+              },
+            );
         complete = λ limit vars types h.
             let v = λ (i : ℕ). vars (get_or names i []) in
             let alike = λ (x : List ℕ) (among : is_among names x ≡ true). ap vars (sym (among_at names x among)) in

@@ -270,10 +270,11 @@ module _ (g : Declarations) (names : List (List ℕ)) (binders : Binders) (n : �
         sees = sees_app f x p step m k before between after of_f of_x df.sees dx.sees dx.grows.later;
         sound = λ limit v some s.
             let q = solves_pushed limit v tag fact last s in
-            let types = typing v (after ++ k ∷ []) in
-            (has_local g (types_of v names) (typing v between) types limit (scope_types v binders) step f (λ i low high. ap v (fun_in i high)) (df.sound limit v some (dx.grows.keeps limit v q.0)),
-            has_local g (types_of v names) (typing v after) types limit (scope_types v binders) (step + raw_size f) x (λ i low high. ap v (arg_in i high)) (dx.sound limit v some q.0),
-            λ counts. ap v (fun_in (top step f) f_top ∙ df.sees.root) ∙ q.1 counts ∙ sym (rw (arg_in (top (step + raw_size f) x) x_top, dx.sees.root, self_in) refl));
+            let types = typing v (after ++ k ∷ []) in (
+              has_local g (types_of v names) (typing v between) types limit (scope_types v binders) step f (λ i low high. ap v (fun_in i high)) (df.sound limit v some (dx.grows.keeps limit v q.0)),
+              has_local g (types_of v names) (typing v after) types limit (scope_types v binders) (step + raw_size f) x (λ i low high. ap v (arg_in i high)) (dx.sound limit v some q.0),
+              λ counts. ap v (fun_in (top step f) f_top ∙ df.sees.root) ∙ q.1 counts ∙ sym (rw (arg_in (top (step + raw_size f) x) x_top, dx.sees.root, self_in) refl),
+            );
         complete = λ limit v types s h.
             let e = df.complete limit v types s h.0 in
             let d = dx.complete limit e.types types e.solves (has_agrees n v e.types e.agree g names limit binders (step + raw_size f) x types named below h.1) in
@@ -309,10 +310,12 @@ module _ (g : Declarations) (names : List (List ℕ)) (binders : Binders) (n : �
         sees = sees_over x step k before after of_x dx.sees (raw_abs a written x p) refl refl;
         sound = λ limit v some s.
             let q = solves_pushed limit v tag fact last s in
-            let types = typing v (after ++ k ∷ []) in
-            (v of_a, da.sound limit v some (dx.grows.keeps limit v q.0),
-            has_local g (types_of v names) (typing v after) types limit ((a, v of_a) ∷ scope_types v binders) step x (λ i low high. ap v (part_in i high)) (dx.sound limit v some q.0),
-            λ counts. ap v self_in ∙ q.1 counts ∙ sym (rw (part_in (top step x) x_top, dx.sees.root) refl));
+            let types = typing v (after ++ k ∷ []) in (
+              v of_a,
+              da.sound limit v some (dx.grows.keeps limit v q.0),
+              has_local g (types_of v names) (typing v after) types limit ((a, v of_a) ∷ scope_types v binders) step x (λ i low high. ap v (part_in i high)) (dx.sound limit v some q.0),
+              λ counts. ap v self_in ∙ q.1 counts ∙ sym (rw (part_in (top step x) x_top, dx.sees.root) refl),
+            );
         complete = λ limit v types s h.
             let e = da.complete limit v h.0 s h.1 in
             let inner : Has g (types_of e.types names) types limit ((a, e.types of_a) ∷ scope_types e.types binders) step x =
@@ -456,9 +459,10 @@ draws_typed g names binders x ty p step n old m mid of_x k last node before afte
       sound = λ limit v some s.
           let q = solves_pushed limit v tag (Same k node) with_first s in
           let r = solves_pushed limit v tag first last q.0 in
-          let is : v node ≡ plain ty = l.sound limit v some r.0 ∙ retyped_none (plain ty) in
-          (has_local g (types_of v names) (typing v after) (typing v (after ++ k ∷ [])) limit (scope_types v binders) step x (λ i low high. ap v (part_in i high)) (dx.sound limit v some (l.grows.keeps limit v r.0)),
-          λ counts. (ap v (part_in (top step x) x_top ∙ dx.sees.root) ∙ r.1 counts ∙ is, ap v self_in ∙ q.1 counts ∙ is));
+          let is : v node ≡ plain ty = l.sound limit v some r.0 ∙ retyped_none (plain ty) in (
+            has_local g (types_of v names) (typing v after) (typing v (after ++ k ∷ [])) limit (scope_types v binders) step x (λ i low high. ap v (part_in i high)) (dx.sound limit v some (l.grows.keeps limit v r.0)),
+            λ counts. (ap v (part_in (top step x) x_top ∙ dx.sees.root) ∙ r.1 counts ∙ is, ap v self_in ∙ q.1 counts ∙ is),
+          );
       complete = λ limit v types s h.
           let e = dx.complete limit v types s h.0 in
           let d = l.complete limit e.types e.solves in

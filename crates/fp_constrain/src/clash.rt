@@ -154,8 +154,22 @@ fn equations_over(
     };
     fix_all(alloc, names, &mut draft, question.given)?;
     let mut seen = Vec::new(alloc);
-    let at = draw(alloc, question.constants, names, &Around::Outermost, &mut draft, &mut seen, question.raw)?;
-    draw_want(alloc, question.constants.signature, &mut draft, question.want, at)?;
+    let at = draw(
+        alloc,
+        question.constants,
+        names,
+        &Around::Outermost,
+        &mut draft,
+        &mut seen,
+        question.raw,
+    )?;
+    draw_want(
+        alloc,
+        question.constants.signature,
+        &mut draft,
+        question.want,
+        at,
+    )?;
     Ok(Equations {
         count: draft.next,
         facts: draft.facts,

@@ -337,7 +337,12 @@ fn draw_abs(
     Ok(at)
 }
 
-fn draw_bound(draft: &mut Draft, seen: &mut Vec<u32>, around: &Around<'_>, number: u32) -> Result<u32, AllocError>
+fn draw_bound(
+    draft: &mut Draft,
+    seen: &mut Vec<u32>,
+    around: &Around<'_>,
+    number: u32,
+) -> Result<u32, AllocError>
     requires about { AreAbout draft.old.next draft.old.facts.items }
     requires binders { BindersBelow draft.old.next (binders_in around.now) }
     requires counted { length seen.old.items ≡ draft.old.step }

@@ -9,5 +9,5 @@ mod instance;
 mod plain;
 
 pub use clash::{Equations, Question, equations_of, first_unsolvable};
-pub use constants::{Constants, find_type};
+pub use constants::Constants;
 pub use plain::plain_type;

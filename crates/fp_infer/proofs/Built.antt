@@ -7,7 +7,7 @@ use Rattle.fp_term.specs.Terms.{Tm}
 use Rattle.fp_term.specs.Terms as tm
 use Rattle.fp_term.specs.Variables.{type_names, type_names_in}
 use Rattle.fp_constrain.specs.Declarations.{Declared, Declarations}
-use Rattle.fp_raw.specs.Raws.{RawTm, raw_app, raw_abs, raw_size}
+use Rattle.fp_raw.specs.Raws.{RawTyp, RawTm, raw_app, raw_abs, raw_size}
 use Rattle.fp_unify.specs.Cells.{cell, Fits}
 use Rattle.fp_unify.specs.Settled.{Determines}
 use Rattle.fp_constrain.specs.Draws.{typing}
@@ -47,7 +47,7 @@ module _ (g : Declarations) (cells : List Shape) (written : List (List ℕ)) (se
         names = b.names ∙ ap (λ known. with_unwritten written known (type_names_in u)) bf.names ∙ sym (with_append written (names_of old) (type_names_in s) (type_names_in u));
       })
 
-  pub builds_abs : (a : Option (List ℕ)) (w : Option Typ) (x : RawTm) (p tag at : ℕ) (old mid new : Pairs) (ty : Typ) (u t : Tm) → tag ≡ n + raw_size x → ((v : ℕ → Typ) → Fits v cells → v at ≡ domain (v (get_or seen tag 0))) → Shows cells written at old mid ty →
+  pub builds_abs : (a : Option (List ℕ)) (w : Option RawTyp) (x : RawTm) (p tag at : ℕ) (old mid new : Pairs) (ty : Typ) (u t : Tm) → tag ≡ n + raw_size x → ((v : ℕ → Typ) → Fits v cells → v at ≡ domain (v (get_or seen tag 0))) → Shows cells written at old mid ty →
       Builds g cells written seen (a ∷ around) n x mid new u → t ≡ tm.abs ty u → Builds g cells written seen around n (raw_abs a w x p) old new t
   builds_abs a w x p tag at old mid new ty u t e from h b is =
       rw is

@@ -1,6 +1,9 @@
+//! The term that a written term stands for, from the types of its subterms.
+
 ghost use Rattle.std.specs.Prelude.{◌≡◌, ℕ, ◌<◌, ◌≤◌, ◌+◌, length, slice_index_or, Option, IfOk};
 ghost use Rattle.fp_term.specs.Types.{Typ};
-ghost use Rattle.fp_raw.specs.Raws.{raw_size, raw_name, raw_app, raw_abs};
+ghost use Rattle.fp_raw.specs.Raws.{RawTyp, raw_size, raw_name, raw_app, raw_abs};
+ghost use Rattle.fp_constrain.specs.Binding.{declared_in};
 ghost use Rattle.fp_constrain.specs.Rules.{is_named};
 ghost use Rattle.fp_unify.specs.Cells.{Fits, AreFine};
 ghost use Rattle.fp_unify.specs.Settled.{Determines};
@@ -8,10 +11,10 @@ ghost use Rattle.fp_infer.specs.Built.{bound_number, domain};
 ghost use Rattle.fp_infer.specs.Builds.{around_of, IsReady, IsArrow, AreArrows, Builds};
 ghost use Rattle.fp_unify.specs.Naming.{IsNamer, Within, Shows};
 
-use crate::naming::{Namer, show};
-use crate::raw::{Raw, RawNode};
-use crate::table::{Shape, root};
-use fp_term::{Name, Signature, Term, Ty};
+use fp_constrain::Constants;
+use fp_raw::{Raw, RawNode};
+use fp_term::{Name, Term, Ty};
+use fp_unify::{Namer, Shape, root, show};
 use std::alloc::{AllocError, Global};
 
 /// The bound variables around a term.
@@ -56,21 +59,6 @@ fn number_of(binders: &Binders<'_>, name: &Name) -> Result<Option<u32>, AllocErr
     }
 }
 
-fn count(raw: &Raw) -> u32
-    requires { raw_size raw.now < 4294967296 }
-    ensures { result ≡ raw_size raw.now }
-{
-    match raw.node() {
-        RawNode::App { fun, arg } => count(fun) + count(arg) + 1,
-        RawNode::Abs { body, .. } => count(body) + 1,
-        RawNode::Typed { term, .. } => count(term) + 1,
-        RawNode::Name(_) => 1,
-        RawNode::Bound(_) => 1,
-        RawNode::Free { .. } => 1,
-        RawNode::Const { .. } => 1,
-    }
-}
-
 // The type from which the functions of the type go.
 fn domain_of(cells: &[Shape], at: u32) -> u32
     requires fine { AreFine cells.now }
@@ -100,7 +88,7 @@ fn show_type(
     seen: &[u32],
     written: &[Name],
     namer: &mut Namer,
-    number: u32,
+    number: usize,
 ) -> Result<Ty, AllocError>
     requires ready { IsReady cells.now seen.now written.now 200 }
     requires within { number < length seen.now }
@@ -108,7 +96,7 @@ fn show_type(
     ensures namer { IfOk result (λ _. IsNamer cells.now written.now namer.new.next namer.new.pairs.items) }
     ensures shows { IfOk result (λ t. Shows cells.now written.now (slice_index_or seen.now number 0) namer.old.pairs.items namer.new.pairs.items t) }
 {
-    let ty = show(alloc, cells, written, namer, seen[number as usize], 200)?;
+    let ty = show(alloc, cells, written, namer, seen[number], 200)?;
     Ok(ty)
 }
 
@@ -119,7 +107,7 @@ fn show_domain(
     seen: &[u32],
     written: &[Name],
     namer: &mut Namer,
-    number: u32,
+    number: usize,
 ) -> Result<Ty, AllocError>
     requires ready { IsReady cells.now seen.now written.now 200 }
     requires within { number < length seen.now }
@@ -128,7 +116,7 @@ fn show_domain(
     ensures namer { IfOk result (λ _. IsNamer cells.now written.now namer.new.next namer.new.pairs.items) }
     ensures shows { IfOk result (λ t. (at : ℕ) × ((v : ℕ → Typ) → Fits v cells.now → v at ≡ domain (v (slice_index_or seen.now number 0))) × Shows cells.now written.now at namer.old.pairs.items namer.new.pairs.items t) }
 {
-    let at = domain_of(cells, seen[number as usize]);
+    let at = domain_of(cells, seen[number]);
     let ty = show(alloc, cells, written, namer, at, 200)?;
     Ok(ty)
 }
@@ -136,28 +124,31 @@ fn show_domain(
 #[cycle(build)]
 fn build_app(
     alloc: Global,
-    signature: &Signature,
+    constants: &Constants<'_>,
     cells: &[Shape],
     seen: &[u32],
     written: &[Name],
     namer: &mut Namer,
     binders: &Binders<'_>,
-    step: u32,
+    step: usize,
     fun: &Raw,
     arg: &Raw,
 ) -> Result<Term, AllocError>
     requires ready { IsReady cells.now seen.now written.now 200 }
     requires within { step + raw_size fun.now + raw_size arg.now < length seen.now }
-    requires few { length seen.now < 4294967296 }
     requires fun_arrows { AreArrows cells.now seen.now step fun.now }
     requires arg_arrows { AreArrows cells.now seen.now (step + raw_size fun.now) arg.now }
     requires namer { IsNamer cells.now written.now namer.old.next namer.old.pairs.items }
     ensures namer { IfOk result (λ _. IsNamer cells.now written.now namer.new.next namer.new.pairs.items) }
-    ensures builds { IfOk result (λ t. (p : ℕ) → Builds signature.now cells.now written.now seen.now (around_of binders.now) step (raw_app fun.now arg.now p) namer.old.pairs.items namer.new.pairs.items t) }
+    ensures builds { IfOk result (λ t. (p : ℕ) → Builds (declared_in constants.now) cells.now written.now seen.now (around_of binders.now) step (raw_app fun.now arg.now p) namer.old.pairs.items namer.new.pairs.items t) }
 {
-    let first = build(alloc, signature, cells, seen, written, namer, binders, step, fun)?;
-    let after = step + count(fun);
-    let second = build(alloc, signature, cells, seen, written, namer, binders, after, arg)?;
+    let first = build(
+        alloc, constants, cells, seen, written, namer, binders, step, fun,
+    )?;
+    let after = step + fun.size() as usize;
+    let second = build(
+        alloc, constants, cells, seen, written, namer, binders, after, arg,
+    )?;
     let term = Term::app(alloc, first, second)?;
     Ok(term)
 }
@@ -165,52 +156,53 @@ fn build_app(
 #[cycle(build)]
 fn build_abs(
     alloc: Global,
-    signature: &Signature,
+    constants: &Constants<'_>,
     cells: &[Shape],
     seen: &[u32],
     written: &[Name],
     namer: &mut Namer,
     binders: &Binders<'_>,
-    step: u32,
+    step: usize,
     name: &Option<Name>,
     body: &Raw,
 ) -> Result<Term, AllocError>
     requires ready { IsReady cells.now seen.now written.now 200 }
     requires within { step + raw_size body.now < length seen.now }
-    requires few { length seen.now < 4294967296 }
     requires arrows { AreArrows cells.now seen.now step body.now }
     requires arrow { IsArrow cells.now (slice_index_or seen.now (step + raw_size body.now) 0) }
     requires namer { IsNamer cells.now written.now namer.old.next namer.old.pairs.items }
     ensures namer { IfOk result (λ _. IsNamer cells.now written.now namer.new.next namer.new.pairs.items) }
-    ensures builds { IfOk result (λ t. (w : Option Typ) (p : ℕ) → Builds signature.now cells.now written.now seen.now (around_of binders.now) step (raw_abs name.now w body.now p) namer.old.pairs.items namer.new.pairs.items t) }
+    ensures builds { IfOk result (λ t. (w : Option RawTyp) (p : ℕ) → Builds (declared_in constants.now) cells.now written.now seen.now (around_of binders.now) step (raw_abs name.now w body.now p) namer.old.pairs.items namer.new.pairs.items t) }
 {
-    let number = step + count(body);
+    let number = step + body.size() as usize;
     let ty = show_domain(alloc, cells, seen, written, namer, number)?;
     let inner = Binders::Under {
         name: &*name,
         outer: &*binders,
     };
-    let inside = build(alloc, signature, cells, seen, written, namer, &inner, step, body)?;
+    let inside = build(
+        alloc, constants, cells, seen, written, namer, &inner, step, body,
+    )?;
     let term = Term::abs(alloc, ty, inside)?;
     Ok(term)
 }
 
 fn build_name(
     alloc: Global,
-    signature: &Signature,
+    constants: &Constants<'_>,
     cells: &[Shape],
     seen: &[u32],
     written: &[Name],
     namer: &mut Namer,
     binders: &Binders<'_>,
-    step: u32,
+    step: usize,
     word: &Name,
 ) -> Result<Term, AllocError>
     requires ready { IsReady cells.now seen.now written.now 200 }
     requires within { step < length seen.now }
     requires namer { IsNamer cells.now written.now namer.old.next namer.old.pairs.items }
     ensures namer { IfOk result (λ _. IsNamer cells.now written.now namer.new.next namer.new.pairs.items) }
-    ensures builds { IfOk result (λ t. (p : ℕ) → Builds signature.now cells.now written.now seen.now (around_of binders.now) step (raw_name word.now p) namer.old.pairs.items namer.new.pairs.items t) }
+    ensures builds { IfOk result (λ t. (p : ℕ) → Builds (declared_in constants.now) cells.now written.now seen.now (around_of binders.now) step (raw_name word.now p) namer.old.pairs.items namer.new.pairs.items t) }
 {
     if let Some(number) = number_of(binders, word)? {
         let term = Term::bound(alloc, number)?;
@@ -218,42 +210,39 @@ fn build_name(
     }
     let ty = show_type(alloc, cells, seen, written, namer, step)?;
     let word_copy = word.copy()?;
-    match signature.const_type(word) {
-        Some(_) => {
-            let term = Term::constant(alloc, word_copy, ty)?;
-            Ok(term)
-        }
-        None => {
-            let term = Term::free(alloc, word_copy, ty)?;
-            Ok(term)
-        }
+    if constants.has(word) {
+        let term = Term::constant(alloc, word_copy, ty)?;
+        return Ok(term);
     }
+    let term = Term::free(alloc, word_copy, ty)?;
+    Ok(term)
 }
 
 /// The term that the written one stands for, with the types of the table.
 #[cycle(build)]
 pub(crate) fn build(
     alloc: Global,
-    signature: &Signature,
+    constants: &Constants<'_>,
     cells: &[Shape],
     seen: &[u32],
     written: &[Name],
     namer: &mut Namer,
     binders: &Binders<'_>,
-    step: u32,
+    step: usize,
     raw: &Raw,
 ) -> Result<Term, AllocError>
     requires ready { IsReady cells.now seen.now written.now 200 }
     requires within { step + raw_size raw.now ≤ length seen.now }
-    requires few { length seen.now < 4294967296 }
     requires arrows { AreArrows cells.now seen.now step raw.now }
     requires namer { IsNamer cells.now written.now namer.old.next namer.old.pairs.items }
     ensures namer { IfOk result (λ _. IsNamer cells.now written.now namer.new.next namer.new.pairs.items) }
-    ensures builds { IfOk result (λ t. Builds signature.now cells.now written.now seen.now (around_of binders.now) step raw.now namer.old.pairs.items namer.new.pairs.items t) }
+    ensures builds { IfOk result (λ t. Builds (declared_in constants.now) cells.now written.now seen.now (around_of binders.now) step raw.now namer.old.pairs.items namer.new.pairs.items t) }
 {
     match raw.node() {
         RawNode::Name(word) => {
-            let term = build_name(alloc, signature, cells, seen, written, namer, binders, step, word)?;
+            let term = build_name(
+                alloc, constants, cells, seen, written, namer, binders, step, word,
+            )?;
             Ok(term)
         }
         RawNode::Bound(number) => {
@@ -271,15 +260,21 @@ pub(crate) fn build(
             Ok(term)
         }
         RawNode::App { fun, arg } => {
-            let term = build_app(alloc, signature, cells, seen, written, namer, binders, step, fun, arg)?;
+            let term = build_app(
+                alloc, constants, cells, seen, written, namer, binders, step, fun, arg,
+            )?;
             Ok(term)
         }
         RawNode::Abs { name, body, .. } => {
-            let term = build_abs(alloc, signature, cells, seen, written, namer, binders, step, name, body)?;
+            let term = build_abs(
+                alloc, constants, cells, seen, written, namer, binders, step, name, body,
+            )?;
             Ok(term)
         }
         RawNode::Typed { term, .. } => {
-            let term = build(alloc, signature, cells, seen, written, namer, binders, step, term)?;
+            let term = build(
+                alloc, constants, cells, seen, written, namer, binders, step, term,
+            )?;
             Ok(term)
         }
     }
