@@ -1,0 +1,5 @@
+pub mod Names
+pub mod Built
+pub mod Builds
+pub mod Elaborated
+pub mod Held
