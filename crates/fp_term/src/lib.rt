@@ -1,6 +1,8 @@
 //! Names, types, terms, statements and signatures of higher-order logic.
 #![tactic(auto)]
 
+mod arities;
+mod chain;
 mod consts;
 mod index;
 mod instance;
@@ -17,7 +19,10 @@ mod ty;
 mod typing;
 mod variables;
 
+pub use arities::Arities;
+pub use chain::Chain;
 pub use consts::Consts;
+pub use index::Declared;
 pub use instance::{find, inst, inst_ty, retype};
 pub use items::Items;
 pub use matching::{find_type, match_ty};
