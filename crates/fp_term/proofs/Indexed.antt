@@ -84,19 +84,3 @@ pub arity_indexed : (k : List ℕ) (arity : ℕ) (t : Tree) (list : List (List �
 arity_indexed k arity t list h n =
     found_with k n (has_arity arity) (name_hash k) (name_hash n) t (ap name_hash)
     ∙ ap (λ o. earlier o (cond (bytes_eq k n) (Some (has_arity arity)) None)) (h n) ∙ sym (arity_earlier n k arity list)
-
-pub found_constant : (o : Option Typ) (s : Typ) → Some (has_type s) ≡ option_map has_type o → Some s ≡ o
-found_constant None s e = cc
-found_constant (Some t) s e = cc
-
-pub no_constant : (o : Option Typ) (n : ℕ) → Some (has_arity n) ≡ option_map has_type o → None ≡ o
-no_constant None n e = refl
-no_constant (Some t) n e = cc
-
-pub found_arity : (o : Option ℕ) (n : ℕ) → Some (has_arity n) ≡ option_map has_arity o → Some n ≡ o
-found_arity None n e = cc
-found_arity (Some m) n e = cc
-
-pub no_arity : (o : Option ℕ) (s : Typ) → Some (has_type s) ≡ option_map has_arity o → None ≡ o
-no_arity None s e = refl
-no_arity (Some m) s e = cc

@@ -5,6 +5,7 @@ ghost use Rattle.fp_term.specs.Signatures.{arity_of};
 use crate::chain::Chain;
 use crate::index::{Declared, Index, LEVELS};
 use crate::name::Name;
+use crate::number::next;
 use std::alloc::{AllocError, Global};
 use std::marker::Model;
 
@@ -100,7 +101,7 @@ impl Arities {
         ensures ok { OnOk result (self.new ≡ self.old ++ item ∷ []) }
         ensures err { OnErr result (self.new ≡ self.old) }
     {
-        let count = self.count.checked_add(1).ok_or(AllocError)?;
+        let count = next(self.count)?;
         let declared = Declared::Arity(item.1);
         let index = self
             .index

@@ -2,10 +2,13 @@
 ghost use Rattle.std.specs.Prelude.{◌≡◌, [], ◌∷◌, ◌++◌, length, IfOk, OnOk, OnErr};
 ghost use Rattle.std.specs.Option.{option_copied};
 ghost use Rattle.fp_term.specs.Types.{found_type};
+ghost use Rattle.fp_term.specs.Index.{has_type};
+ghost use Rattle.fp_term.specs.IndexView.{seen_entry};
 
 use crate::chain::Chain;
 use crate::index::{Declared, Index, LEVELS};
 use crate::name::Name;
+use crate::number::next;
 use crate::ty::Ty;
 use std::alloc::{AllocError, Global};
 use std::marker::Model;
@@ -47,6 +50,12 @@ impl Model for Consts {
     ghost view = { λ c. c.list };
 
     ghost invariant = { λ c. (c.count ≡ length c.list) × ((name : List ℕ) → sought (name_hash name) name c.index ≡ option_map has_type (found_type name c.list)) };
+}
+
+fn constant_of(ty: &Ty) -> Result<Declared, AllocError>
+    ensures { IfOk result (λ d. seen_entry d ≡ has_type ty.now) }
+{
+    Ok(Declared::Constant(ty.copy()?))
 }
 
 impl Consts {
@@ -106,8 +115,8 @@ impl Consts {
         ensures ok { OnOk result (self.new ≡ self.old ++ item ∷ []) }
         ensures err { OnErr result (self.new ≡ self.old) }
     {
-        let count = self.count.checked_add(1).ok_or(AllocError)?;
-        let declared = Declared::Constant(item.1.copy()?);
+        let count = next(self.count)?;
+        let declared = constant_of(&item.1)?;
         let index = self
             .index
             .with(self.alloc, LEVELS, item.0.hash(), &item.0, &declared)?;
