@@ -43,10 +43,7 @@ pub struct CongRule {
     pub premises: Items<CongPremise>,
 }
 
-fn copy_premises(
-    alloc: Global,
-    premises: &[CongPremise],
-) -> Result<Items<CongPremise>, AllocError>
+fn copy_premises(alloc: Global, premises: &[CongPremise]) -> Result<Items<CongPremise>, AllocError>
     ensures { IfOk result (λ copies. copies ≡ premises.now) }
 {
     let mut copies = Items::new(alloc);

@@ -1,10 +1,11 @@
-//! Copies of lists.
+//! Copies of lists of names, types and variables.
 ghost use Rattle.std.specs.Prelude.{◌≡◌, IfOk};
 
 use fp_term::{Items, Name, Ty};
 use std::alloc::{AllocError, Global};
 
-pub(crate) fn copy_names(alloc: Global, names: &[Name]) -> Result<Items<Name>, AllocError>
+/// Equal names.
+pub fn copy_names(alloc: Global, names: &[Name]) -> Result<Items<Name>, AllocError>
     ensures { IfOk result (λ copies. copies ≡ names.now) }
 {
     let mut copies = Items::new(alloc);
@@ -14,7 +15,8 @@ pub(crate) fn copy_names(alloc: Global, names: &[Name]) -> Result<Items<Name>, A
     Ok(copies)
 }
 
-pub(crate) fn copy_types(alloc: Global, tys: &[Ty]) -> Result<Items<Ty>, AllocError>
+/// Equal types.
+pub fn copy_types(alloc: Global, tys: &[Ty]) -> Result<Items<Ty>, AllocError>
     ensures { IfOk result (λ copies. copies ≡ tys.now) }
 {
     let mut copies = Items::new(alloc);
@@ -24,10 +26,8 @@ pub(crate) fn copy_types(alloc: Global, tys: &[Ty]) -> Result<Items<Ty>, AllocEr
     Ok(copies)
 }
 
-pub(crate) fn copy_variables(
-    alloc: Global,
-    vars: &[(Name, Ty)],
-) -> Result<Items<(Name, Ty)>, AllocError>
+/// Equal variables.
+pub fn copy_variables(alloc: Global, vars: &[(Name, Ty)]) -> Result<Items<(Name, Ty)>, AllocError>
     ensures { IfOk result (λ copies. copies ≡ vars.now) }
 {
     let mut copies = Items::new(alloc);

@@ -12,5 +12,6 @@ mod site;
 pub use clause::{Clause, Head};
 pub use congruence::{CongPremise, CongRule, CongTable};
 pub use constructors::{ConTable, ConType};
+pub use copying::{copy_names, copy_types, copy_variables};
 pub use group::Group;
 pub use site::CallSite;

@@ -1,3 +1,4 @@
+//! The completed clauses of a group: the written ones, each without what the earlier ones match, and then the missing ones.
 ghost use Rattle.std.specs.Prelude.{◌≡◌, ◌≤◌, ◌<◌, ◌+◌, ◌++◌, [], ◌∷◌, Some, Ok, Err, length, take, drop, codes, IfOk, MatchBool};
 ghost use Rattle.std.specs.List.{slice_get};
 ghost use Rattle.fp_term.specs.Terms.{free, constant};
@@ -13,14 +14,8 @@ use crate::left::{left_of, left_within};
 use crate::split::numbered;
 use crate::subtract::append;
 use fp_group::{Clause, ConTable, Head};
-use fp_term::{Items, Name, Signature, Term, Ty};
+use fp_term::{Items, Name, Signature, Term, Ty, next};
 use std::alloc::{AllocError, Global};
-
-fn next(number: u32) -> Result<u32, AllocError>
-    ensures { IfOk result (λ n. n ≡ number + 1) }
-{
-    number.checked_add(1).ok_or(AllocError)
-}
 
 // The clause alone, with its number as its origin.
 fn written(alloc: Global, clause: &Clause, number: u32) -> Result<Items<Clause>, AllocError>

@@ -1,3 +1,4 @@
+//! The form of patterns, and the first argument that has not that form.
 ghost use Rattle.std.specs.Prelude.{◌≡◌, ◌+◌, ◌++◌, [], ◌∷◌, Some, None, Ok, Err, IfOk, MatchOption};
 ghost use Rattle.fp_pattern.specs.declared.faults.PatternFault.TheVariants.{NonLinear};
 ghost use Rattle.fp_pattern.specs.Completed.{is_seen, noted, argument_fault, form_fault};
@@ -5,7 +6,7 @@ ghost use Rattle.fp_pattern.specs.Completed.{is_seen, noted, argument_fault, for
 use crate::faults::PatternFault;
 use crate::pattern::is_pattern;
 use fp_group::{Clause, ConTable};
-use fp_term::{Items, Name, Node, Term, Ty};
+use fp_term::{Items, Name, Node, Term, Ty, next};
 use std::alloc::{AllocError, Global};
 
 fn is_seen(seen: &[(Name, Ty)], name: &Name, ty: &Ty) -> bool
@@ -45,12 +46,6 @@ fn note<'a>(seen: &mut Items<(Name, Ty)>, term: &'a Term) -> Result<Option<&'a N
         },
         Node::Abs { .. } => Ok(None),
     }
-}
-
-fn next(number: u32) -> Result<u32, AllocError>
-    ensures { IfOk result (λ n. n ≡ number + 1) }
-{
-    number.checked_add(1).ok_or(AllocError)
 }
 
 fn non_linear(clause: u32, name: &Name) -> Result<PatternFault, AllocError>

@@ -1,3 +1,4 @@
+//! What is left of clauses without the earlier ones of their function.
 ghost use Rattle.std.specs.Prelude.{◌≡◌, ◌≤◌, ◌<◌, length, IfOk, MatchBool};
 ghost use Rattle.fp_pattern.specs.Subtraction.{IsLeft};
 ghost use Rattle.fp_pattern.specs.Completed.{patterns_of, IsLimited};

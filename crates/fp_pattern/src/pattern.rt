@@ -1,3 +1,4 @@
+//! Patterns: variables, and constructors applied to patterns.
 ghost use Rattle.std.specs.Prelude.{◌≡◌, Some, None, MatchOption};
 ghost use Rattle.std.specs.Option.{option_copied};
 ghost use Rattle.fp_pattern.specs.Patterns.{arrow, outcome, given, spine, is_variable, is_pattern};

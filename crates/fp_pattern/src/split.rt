@@ -1,3 +1,4 @@
+//! A variable of a clause split into the constructors of its type.
 ghost use Rattle.std.specs.Prelude.{◌≡◌, [], Some, None, IfOk, MatchOption};
 ghost use Rattle.std.specs.Option.{option_copied};
 ghost use Rattle.fp_term.specs.Types.{retyped, all_retyped, found_type};
@@ -7,49 +8,8 @@ ghost use Rattle.fp_pattern.specs.Subtraction.{numbered, occurs, is_variable_of,
 
 use crate::{clause, pattern, table};
 use fp_group::{Clause, ConTable};
-use fp_term::{Items, Name, Node, Signature, Term, Ty, TyNode, Tys, TysNode, match_ty};
+use fp_term::{Items, Name, Node, Signature, Term, Ty, TyNode, match_ty, retype};
 use std::alloc::{AllocError, Global};
-
-// The type of the first pair for the name.
-fn find_type<'a>(name: &Name, pairs: &'a [(Name, Ty)]) -> Option<&'a Ty>
-    ensures { option_copied result ≡ found_type name.now pairs.now }
-{
-    for pair in pairs {
-        if pair.0.equals(name) {
-            return Some(&pair.1);
-        }
-    }
-    None
-}
-
-#[cycle(retype)]
-fn retype(alloc: Global, ty: &Ty, pairs: &[(Name, Ty)]) -> Result<Ty, AllocError>
-    ensures { IfOk result (λ t. t ≡ retyped pairs.now ty.now) }
-{
-    match ty.node() {
-        TyNode::Var(name) => match find_type(name, pairs) {
-            Some(by) => by.copy(),
-            None => ty.copy(),
-        },
-        TyNode::Con { name, args } => {
-            let args = retype_all(alloc, args, pairs)?;
-            Ty::con(alloc, name.copy()?, args)
-        }
-    }
-}
-
-#[cycle(retype)]
-fn retype_all(alloc: Global, tys: &Tys, pairs: &[(Name, Ty)]) -> Result<Tys, AllocError>
-    ensures { IfOk result (λ ts. ts ≡ all_retyped pairs.now tys.now) }
-{
-    match tys.node() {
-        TysNode::End => tys.copy(),
-        TysNode::More { first, rest } => {
-            let first = retype(alloc, first, pairs)?;
-            Tys::more(alloc, first, retype_all(alloc, rest, pairs)?)
-        }
-    }
-}
 
 // The declared type at which its values have the type.
 fn type_for(alloc: Global, declared: &Ty, ty: &Ty) -> Result<Option<Ty>, AllocError>
@@ -77,14 +37,12 @@ fn con_type(
 }
 
 // `v` and the number.
+#[tactic(auto, unfolding(fp_term::specs::Names::is_name))]
 pub(crate) fn numbered(alloc: Global, number: u32) -> Result<Name, AllocError>
     ensures { IfOk result (λ n. n ≡ numbered number) }
 {
-    let text = format!(in alloc; "v{number}")?;
-    match Name::new(alloc, text.as_bytes())? {
-        Some(name) => Ok(name),
-        None => Err(AllocError),
-    }
+    let stem = Name::of(alloc, b"v")?;
+    fp_term::numbered(alloc, &stem, number)
 }
 
 fn is_variable_of(term: &Term, name: &Name) -> bool

@@ -1,3 +1,4 @@
+//! A clause without what a pattern matches.
 ghost use Rattle.std.specs.Prelude.{◌≡◌, ◌++◌, [], ◌∷◌, Some, None, IfOk, MatchOption};
 ghost use Rattle.fp_pattern.specs.Subtraction.{apart, any_apart, met, first_met, IsMinus, AreMinus};
 
