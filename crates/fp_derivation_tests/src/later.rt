@@ -101,7 +101,7 @@ fn a_copy_states_the_same(rt: HostRuntime) -> Result<(), Fail> {
 fn has_constant(alloc: Global, defs: &Defs) -> Result<bool, AllocError> {
     let constant = name(alloc, "c")?;
     let signature = defs.signature();
-    let counts = defs.level() == 1 && signature.types.as_slice().len() == 3;
+    let counts = defs.level() == 1 && signature.types.len() == 3;
     Ok(counts && signature.const_type(&constant).is_some())
 }
 

@@ -6,10 +6,10 @@ ghost use Rattle.fp_kernel.specs.Start.{start_types, start_constants, start_trut
 use fp_conclude::{
     alpha, binary_truth, equality_type, predicate_over, quantifier_type, select_type, truth_type,
 };
-use fp_term::{Consts, Items, Name, Signature, Ty, equality_name, function_name, truth_name};
+use fp_term::{Arities, Consts, Name, Signature, Ty, equality_name, function_name, truth_name};
 use std::alloc::{AllocError, Global};
 
-fn add_type(types: &mut Items<(Name, u32)>, name: Name, arity: u32) -> Result<(), AllocError>
+fn add_type(types: &mut Arities, name: Name, arity: u32) -> Result<(), AllocError>
     ensures { IfOk result (λ _. types.new ≡ types.old ++ (name, arity) ∷ []) }
 {
     types.push((name, arity))
@@ -23,10 +23,10 @@ fn add_constant(alloc: Global, consts: &mut Consts, name: &[u8], ty: Ty) -> Resu
 }
 
 #[tactic(auto, unfolding(fp_term::specs::Names::is_name))]
-fn start_types(alloc: Global) -> Result<Items<(Name, u32)>, AllocError>
+fn start_types(alloc: Global) -> Result<Arities, AllocError>
     ensures { IfOk result (λ types. types ≡ start_types) }
 {
-    let mut types = Items::new(alloc);
+    let mut types = Arities::new(alloc)?;
     add_type(&mut types, truth_name(alloc)?, 0)?;
     add_type(&mut types, function_name(alloc)?, 2)?;
     add_type(&mut types, Name::of(alloc, b"ind")?, 0)?;

@@ -152,8 +152,8 @@ const AGAIN: Refusal = Refusal {
 fn is_longer(defs: &Defs) -> bool {
     let signature = defs.signature();
     defs.level() == 1
-        && signature.consts.as_slice().len() == 11
-        && signature.types.as_slice().len() == 3
+        && signature.consts.len() == 11
+        && signature.types.len() == 3
 }
 
 #[test]

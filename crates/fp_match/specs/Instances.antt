@@ -5,6 +5,7 @@ use Rattle.fp_term.specs.Types.{Typ, type_eq, found_type}
 use Rattle.fp_term.specs.Terms.{Tm, bound, free, constant, app, abs, found, replaced, retyped_term}
 use Rattle.fp_term.specs.Typing.{type_under}
 use Rattle.fp_term.specs.Variables.{is_among, type_names_in}
+pub use Rattle.fp_term.specs.Variables.{occurs as has_variable}
 
 -- each pair's term has the pair's type
 abbrev pub AreTyped : List (List ℕ × Typ × Tm) → Type 0
@@ -21,14 +22,6 @@ pub record IsTermInstance (pattern t : Tm) : Type 0 where
   pub types : List (List ℕ × Typ)
   pub terms : List (List ℕ × Typ × Tm)
   pub by : IsInstanceBy types terms pattern t
-
--- is the variable free in the term?
-abbrev pub has_variable : List ℕ → Typ → Tm → Bool
-has_variable name s (bound n) = false
-has_variable name s (free a u) = bytes_eq a name && type_eq u s
-has_variable name s (constant a u) = false
-has_variable name s (app f x) = has_variable name s f || has_variable name s x
-has_variable name s (abs u x) = has_variable name s x
 
 -- each pair is of a type variable of the term
 abbrev pub AreTypeVariables : Tm → List (List ℕ × Typ) → Type 0

@@ -1,3 +1,4 @@
+//! Instances of a pattern.
 ghost use Rattle.std.specs.Prelude.{◌≡◌, [], ◌∷◌, ◌++◌, IfOk};
 
 use fp_term::{Items, Name, Term, Ty};

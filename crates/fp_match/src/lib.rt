@@ -2,7 +2,6 @@
 #![tactic(auto)]
 
 ghost use Rattle.std.specs.Prelude.{◌≡◌, [], Some, None, IfOk, MatchOption, MatchBool};
-ghost use Rattle.std.specs.Option.{option_copied};
 ghost use Rattle.fp_term.specs.Terms.{constant, app, abs, found};
 ghost use Rattle.fp_term.specs.Typing.{type_under};
 ghost use Rattle.fp_match.specs.Instances.{IsInstanceBy, IsTermInstance, AreOwn, AreFirst};
@@ -14,27 +13,15 @@ mod types;
 use crate::inst::push_term;
 use crate::types::{match_type, own_type};
 pub use fp_term::match_ty;
-use fp_term::{Name, Node, Term, Ty, same};
+use fp_term::{Name, Node, Term, Ty, find, same};
 pub use inst::Inst;
 use std::alloc::{AllocError, Global};
-
-// The term of the first pair for the variable.
-fn find_term<'a>(name: &Name, ty: &Ty, pairs: &'a [(Name, Ty, Term)]) -> Option<&'a Term>
-    ensures { option_copied result ≡ found name.now ty.now pairs.now }
-{
-    for pair in pairs {
-        if pair.0.equals(name) && pair.1.equals(ty) {
-            return Some(&pair.2);
-        }
-    }
-    None
-}
 
 // Adds the pair where there is none for the variable, and says whether the variable's term is this one.
 fn put_term(inst: &mut Inst, name: &Name, ty: &Ty, term: &Term) -> Result<bool, AllocError>
     ensures { IfOk result (λ yes. MatchBool yes (put_term (found name.now ty.now inst.old.terms) name.now ty.now term.now inst.old ≡ Some inst.new) (put_term (found name.now ty.now inst.old.terms) name.now ty.now term.now inst.old ≡ None)) }
 {
-    match find_term(name, ty, inst.terms.as_slice()) {
+    match find(name, ty, inst.terms.as_slice()) {
         Some(known) => Ok(same(known, term)),
         None => {
             push_term(&mut inst.terms, name, ty, term)?;

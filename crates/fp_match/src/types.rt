@@ -1,24 +1,12 @@
+//! Matching of types, beside the pairs that are there.
 ghost use Rattle.std.specs.Prelude.{◌≡◌, [], ◌∷◌, ◌++◌, Some, None, IfOk, MatchBool};
-ghost use Rattle.std.specs.Option.{option_copied};
 ghost use Rattle.fp_term.specs.Types.{found_type, bound_to};
 ghost use Rattle.fp_term.specs.Typing.{type_under};
 ghost use Rattle.fp_match.specs.Walk.{put_types, matched_type};
 
 use crate::inst::push_type;
-use fp_term::{Items, Name, Term, Ty, TypeOfFault, match_ty, type_of};
+use fp_term::{Items, Name, Term, Ty, TypeOfFault, find_type, match_ty, type_of};
 use std::alloc::{AllocError, Global};
-
-// The type of the first pair for the name.
-fn find_type<'a>(name: &Name, pairs: &'a [(Name, Ty)]) -> Option<&'a Ty>
-    ensures { option_copied result ≡ found_type name.now pairs.now }
-{
-    for pair in pairs {
-        if pair.0.equals(name) {
-            return Some(&pair.1);
-        }
-    }
-    None
-}
 
 // Adds the pair where there is none for the name, and says whether the name's pair is this one.
 fn put_type(types: &mut Items<(Name, Ty)>, name: &Name, ty: &Ty) -> Result<bool, AllocError>

@@ -2,3 +2,4 @@ pub mod Loose
 mod Later
 mod Sizes
 pub mod Unused
+mod Known

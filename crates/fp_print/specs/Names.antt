@@ -37,3 +37,8 @@ place_of used (suc d) = next_place used used (place_of used d + 1)
 -- the name of a binder inside `d` others
 abbrev pub binder_name : List (List ℕ) → ℕ → List ℕ
 binder_name used d = candidate (place_of used d)
+
+-- the names of so many binders, each inside the one before
+abbrev pub binder_names : List (List ℕ) → ℕ → List (List ℕ)
+binder_names used zero = []
+binder_names used (suc d) = binder_names used d ++ binder_name used d ∷ []

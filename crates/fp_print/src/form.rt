@@ -1,4 +1,4 @@
-// The form in which a term is printed.
+//! The form in which a term is printed.
 ghost use Rattle.std.specs.Prelude.{◌≡◌, Some, None, MatchOption};
 ghost use Rattle.std.specs.Str.{bytes_eq};
 ghost use Rattle.fp_term.specs.Types.{Typ};

@@ -1,13 +1,13 @@
-// Prints terms, types and statements in the short form.
+//! Prints terms, types and statements in the short form.
 ghost use Rattle.std.specs.Prelude.{◌≡◌, ◌++◌, codes, OnOk, IfOk};
 ghost use Rattle.fp_print.specs.Numbers.{HasOnly, AllHaveOnly};
 ghost use Rattle.fp_print.specs.Texts.{text_among, later_hypotheses, hypotheses, short_term, short_statement};
 ghost use Rattle.fp_print.specs.Types.{short_type};
 
-use crate::names::{names_of_statement, names_of_term};
+use crate::names::{BinderNames, names_in_statement, names_in_term};
 use crate::text::{Place, print_placed};
 use crate::types::print_type_onto;
-use fp_term::{Name, Statement, Term, Ty};
+use fp_term::{Statement, Term, Ty};
 use std::alloc::{AllocError, Global};
 
 /// The short text of a statement without loose numbers.
@@ -47,10 +47,10 @@ pub fn print_statement_onto(out: &mut Vec<u8>, statement: &Statement) -> Result<
     ensures { OnOk result (out.new.items ≡ out.old.items ++ short_statement statement.now.hyps statement.now.concl) }
 {
     let alloc = *out.allocator();
-    let used = names_of_statement(alloc, statement)?;
-    print_hypotheses(out, used.as_slice(), statement.hyps.as_slice())?;
+    let names = names_in_statement(alloc, statement)?;
+    print_hypotheses(out, &names, statement.hyps.as_slice())?;
     out.extend_from_slice(b"|- ")?;
-    print_among(out, used.as_slice(), &statement.concl)
+    print_among(out, &names, &statement.concl)
 }
 
 /// Puts the short text of a term without loose numbers at the end.
@@ -59,46 +59,46 @@ pub fn print_term_onto(out: &mut Vec<u8>, term: &Term) -> Result<(), AllocError>
     ensures { OnOk result (out.new.items ≡ out.old.items ++ short_term term.now) }
 {
     let alloc = *out.allocator();
-    let used = names_of_term(alloc, term)?;
-    print_among(out, used.as_slice(), term)
+    let names = names_in_term(alloc, term)?;
+    print_among(out, &names, term)
 }
 
 // A term with those names in use.
 #[tactic(auto, using(crate::proofs::Loose::shape_has_only))]
-fn print_among(out: &mut Vec<u8>, used: &[Name], term: &Term) -> Result<(), AllocError>
+fn print_among(out: &mut Vec<u8>, names: &BinderNames, term: &Term) -> Result<(), AllocError>
     requires { HasOnly 0 term.now }
-    ensures { OnOk result (out.new.items ≡ out.old.items ++ text_among used.now term.now) }
+    ensures { OnOk result (out.new.items ≡ out.old.items ++ text_among names.now term.now) }
 {
     print_placed(out, used, 0, Place::Alone, term)
 }
 
 // A hypothesis after the first.
-fn print_next(out: &mut Vec<u8>, used: &[Name], hyp: &Term) -> Result<(), AllocError>
+fn print_next(out: &mut Vec<u8>, names: &BinderNames, hyp: &Term) -> Result<(), AllocError>
     requires { HasOnly 0 hyp.now }
-    ensures { OnOk result (out.new.items ≡ out.old.items ++ (codes ", " ++ text_among used.now hyp.now)) }
+    ensures { OnOk result (out.new.items ≡ out.old.items ++ (codes ", " ++ text_among names.now hyp.now)) }
 {
     out.extend_from_slice(b", ")?;
-    print_among(out, used, hyp)
+    print_among(out, names, hyp)
 }
 
 // The hypotheses after the first, and a space.
-fn print_later(out: &mut Vec<u8>, used: &[Name], hyps: &[Term]) -> Result<(), AllocError>
+fn print_later(out: &mut Vec<u8>, names: &BinderNames, hyps: &[Term]) -> Result<(), AllocError>
     requires { AllHaveOnly 0 hyps.now }
-    ensures { OnOk result (out.new.items ≡ out.old.items ++ later_hypotheses used.now hyps.now) }
+    ensures { OnOk result (out.new.items ≡ out.old.items ++ later_hypotheses names.now hyps.now) }
 {
     for hyp in hyps {
-        print_next(out, used, hyp)?;
+        print_next(out, names, hyp)?;
     }
     out.extend_from_slice(b" ")
 }
 
-fn print_hypotheses(out: &mut Vec<u8>, used: &[Name], hyps: &[Term]) -> Result<(), AllocError>
+fn print_hypotheses(out: &mut Vec<u8>, names: &BinderNames, hyps: &[Term]) -> Result<(), AllocError>
     requires { AllHaveOnly 0 hyps.now }
-    ensures { OnOk result (out.new.items ≡ out.old.items ++ hypotheses used.now hyps.now) }
+    ensures { OnOk result (out.new.items ≡ out.old.items ++ hypotheses names.now hyps.now) }
 {
     let Some((first, rest)) = hyps.split_first() else {
         return Ok(());
     };
-    print_among(out, used, first)?;
-    print_later(out, used, rest)
+    print_among(out, names, first)?;
+    print_later(out, names, rest)
 }

@@ -1,4 +1,4 @@
-// The symbols between two parts.
+//! The symbols between two parts.
 ghost use Rattle.std.specs.Prelude.{◌≡◌, Some, None, MatchOption};
 ghost use Rattle.std.specs.Str.{bytes_eq};
 ghost use Rattle.fp_print.specs.Shapes.{Infix, infix_of, operator};

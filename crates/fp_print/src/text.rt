@@ -1,4 +1,4 @@
-// Prints the forms of terms.
+//! Prints the forms of terms.
 ghost use Rattle.std.specs.Prelude.{◌≡◌, ◌==◌, ◌+◌, ◌++◌, ◌∷◌, [], codes, if◌then◌else◌, OnOk};
 ghost use Rattle.fp_print.specs.Shapes.{shape, joined_by, chosen, bound_by};
 ghost use Rattle.fp_print.specs.Numbers.{ShapeHasOnly};
@@ -6,9 +6,9 @@ ghost use Rattle.fp_print.specs.Texts.{alone, after_binder, second, symbol_of, b
 ghost use Rattle.fp_print.specs.Views.{seen_form, seen_infix, seen_binder, seen_place};
 
 use crate::form::{Binder, Form, form_of};
-use crate::names::{one_more, push_binder_name};
+use crate::names::{BinderNames, push_binder_name};
 use crate::symbol::Infix;
-use fp_term::{Name, Term};
+use fp_term::{Term, next};
 use std::alloc::AllocError;
 
 /// Where a form stands.
@@ -119,18 +119,18 @@ fn print_after(out: &mut Vec<u8>, place: Place, form: &Form<'_>) -> Result<(), A
 #[cycle(text)]
 pub(crate) fn print_placed(
     out: &mut Vec<u8>,
-    used: &[Name],
+    names: &BinderNames,
     depth: u32,
     place: Place,
     term: &Term,
 ) -> Result<(), AllocError>
     requires { ShapeHasOnly depth (shape term.now) }
     ensures { OnOk result (out.new.items ≡ out.old.items
-        ++ placed (seen_place place) (shape term.now) (inner used.now depth (shape term.now))) }
+        ++ placed (seen_place place) (shape term.now) (inner names.now depth (shape term.now))) }
 {
     let form = form_of(term);
     print_before(out, place, &form)?;
-    print_inner(out, used, depth, &form)?;
+    print_inner(out, names, depth, &form)?;
     print_after(out, place, &form)
 }
 
@@ -138,20 +138,20 @@ pub(crate) fn print_placed(
 #[cycle(text)]
 fn print_part(
     out: &mut Vec<u8>,
-    used: &[Name],
+    names: &BinderNames,
     depth: u32,
     need: u8,
     term: &Term,
 ) -> Result<(), AllocError>
     requires { ShapeHasOnly depth (shape term.now) }
-    ensures { OnOk result (out.new.items ≡ out.old.items ++ part need (shape term.now) (inner used.now depth (shape term.now))) }
+    ensures { OnOk result (out.new.items ≡ out.old.items ++ part need (shape term.now) (inner names.now depth (shape term.now))) }
 {
     if form_of(term).level() < need {
         put(out, b'(')?;
-        print_placed(out, used, depth, Place::Alone, term)?;
+        print_placed(out, names, depth, Place::Alone, term)?;
         put(out, b')')
     } else {
-        print_placed(out, used, depth, Place::Alone, term)
+        print_placed(out, names, depth, Place::Alone, term)
     }
 }
 
@@ -159,32 +159,32 @@ fn print_part(
 #[cycle(text)]
 fn print_inner(
     out: &mut Vec<u8>,
-    used: &[Name],
+    names: &BinderNames,
     depth: u32,
     form: &Form<'_>,
 ) -> Result<(), AllocError>
     requires { ShapeHasOnly depth (seen_form form.now) }
-    ensures { OnOk result (out.new.items ≡ out.old.items ++ inner used.now depth (seen_form form.now)) }
+    ensures { OnOk result (out.new.items ≡ out.old.items ++ inner names.now depth (seen_form form.now)) }
 {
     match form {
         Form::Named(name) => out.extend_from_slice(name.as_slice()),
-        Form::Numbered(number) => push_binder_name(out, used, depth - 1 - *number),
-        Form::Bound(binder, body) => print_bound(out, used, depth, *binder, body),
-        Form::Joined(symbol, left, right) => print_joined(out, used, depth, symbol, left, right),
+        Form::Numbered(number) => push_binder_name(out, names, depth - 1 - *number),
+        Form::Bound(binder, body) => print_bound(out, names, depth, *binder, body),
+        Form::Joined(symbol, left, right) => print_joined(out, names, depth, symbol, left, right),
         Form::Negated(body) => {
             out.extend_from_slice(b"~ ")?;
-            print_part(out, used, depth, 4, body)
+            print_part(out, names, depth, 4, body)
         }
-        Form::Chosen(test, one, other) => print_chosen(out, used, depth, test, one, other),
+        Form::Chosen(test, one, other) => print_chosen(out, names, depth, test, one, other),
         Form::Paired(one, other) => {
-            print_placed(out, used, depth, Place::Alone, one)?;
+            print_placed(out, names, depth, Place::Alone, one)?;
             out.extend_from_slice(b", ")?;
-            print_placed(out, used, depth, Place::Second, other)
+            print_placed(out, names, depth, Place::Second, other)
         }
         Form::Applied(fun, arg) => {
-            print_part(out, used, depth, 8, fun)?;
+            print_part(out, names, depth, 8, fun)?;
             put(out, b' ')?;
-            print_part(out, used, depth, 9, arg)
+            print_part(out, names, depth, 9, arg)
         }
     }
 }
@@ -193,24 +193,24 @@ fn print_inner(
 #[cycle(text)]
 fn print_bound(
     out: &mut Vec<u8>,
-    used: &[Name],
+    names: &BinderNames,
     depth: u32,
     binder: Binder,
     body: &Term,
 ) -> Result<(), AllocError>
     requires { ShapeHasOnly (depth + 1) (shape body.now) }
-    ensures { OnOk result (out.new.items ≡ out.old.items ++ inner used.now depth (bound_by (seen_binder binder) (shape body.now))) }
+    ensures { OnOk result (out.new.items ≡ out.old.items ++ inner names.now depth (bound_by (seen_binder binder) (shape body.now))) }
 {
-    push_binder_name(out, used, depth)?;
-    let inside = one_more(depth)?;
-    print_placed(out, used, inside, Place::AfterBinder(binder), body)
+    push_binder_name(out, names, depth)?;
+    let inside = next(depth)?;
+    print_placed(out, names, inside, Place::AfterBinder(binder), body)
 }
 
 // Two parts with a symbol between them.
 #[cycle(text)]
 fn print_joined(
     out: &mut Vec<u8>,
-    used: &[Name],
+    names: &BinderNames,
     depth: u32,
     symbol: &Infix,
     left: &Term,
@@ -218,20 +218,20 @@ fn print_joined(
 ) -> Result<(), AllocError>
     requires { ShapeHasOnly depth (joined_by (seen_infix symbol.now) (shape left.now) (shape right.now)) }
     ensures { OnOk result (out.new.items ≡ out.old.items
-        ++ inner used.now depth (joined_by (seen_infix symbol.now) (shape left.now) (shape right.now))) }
+        ++ inner names.now depth (joined_by (seen_infix symbol.now) (shape left.now) (shape right.now))) }
 {
-    print_part(out, used, depth, symbol.left, left)?;
+    print_part(out, names, depth, symbol.left, left)?;
     put(out, b' ')?;
     out.extend_from_slice(symbol.symbol)?;
     put(out, b' ')?;
-    print_part(out, used, depth, symbol.right, right)
+    print_part(out, names, depth, symbol.right, right)
 }
 
 // `if` and its three parts.
 #[cycle(text)]
 fn print_chosen(
     out: &mut Vec<u8>,
-    used: &[Name],
+    names: &BinderNames,
     depth: u32,
     test: &Term,
     one: &Term,
@@ -239,12 +239,12 @@ fn print_chosen(
 ) -> Result<(), AllocError>
     requires { ShapeHasOnly depth (chosen (shape test.now) (shape one.now) (shape other.now)) }
     ensures { OnOk result (out.new.items ≡ out.old.items
-        ++ inner used.now depth (chosen (shape test.now) (shape one.now) (shape other.now))) }
+        ++ inner names.now depth (chosen (shape test.now) (shape one.now) (shape other.now))) }
 {
     out.extend_from_slice(b"if ")?;
-    print_placed(out, used, depth, Place::Alone, test)?;
+    print_placed(out, names, depth, Place::Alone, test)?;
     out.extend_from_slice(b" then ")?;
-    print_placed(out, used, depth, Place::Alone, one)?;
+    print_placed(out, names, depth, Place::Alone, one)?;
     out.extend_from_slice(b" else ")?;
-    print_placed(out, used, depth, Place::Alone, other)
+    print_placed(out, names, depth, Place::Alone, other)
 }

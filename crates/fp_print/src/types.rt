@@ -1,4 +1,4 @@
-// Prints types.
+//! Prints types.
 ghost use Rattle.std.specs.Prelude.{◌≡◌, ◌++◌, ◌∷◌, codes, MatchOption, OnOk};
 ghost use Rattle.fp_term.specs.Types.{applied};
 ghost use Rattle.fp_print.specs.Types.{type_level, type_part, after_commas, level_by, type_infix, two_types, listed, applied_text, short_type, each_type};

@@ -12,3 +12,4 @@ pub mod Applied
 pub mod NumberedNames
 pub mod FunctionTypes
 pub mod Bodies
+pub mod Closed

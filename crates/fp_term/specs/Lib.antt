@@ -10,3 +10,5 @@ pub mod Typing
 pub mod Faults
 pub mod Variables
 pub mod Signatures
+pub mod Chains
+pub mod Arities

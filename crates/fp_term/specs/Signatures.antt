@@ -2,14 +2,10 @@
 use Rattle.std.specs.Prelude.{◌≡◌, ℕ, Bool, false, ◌==◌, if◌then◌else◌, List, [], ◌∷◌, Option, Some, None}
 use Rattle.std.specs.Str.{bytes_eq}
 use Rattle.fp_term.specs.Types.{Typ, Typs, variable, applied, none, more, count, found_type, is_instance, IsInstance}
+pub use Rattle.fp_term.specs.Arities.{arity_of}
 use Rattle.fp_term.specs.Terms.{Tm, bound, free, constant, app, abs}
 use Rattle.fp_term.specs.Typing.{type_under}
 use Rattle.fp_term.specs.declared.signature.Signature.{Signature}
-
--- how many arguments the constructor has
-abbrev pub arity_of : List ℕ → List (List ℕ × ℕ) → Option ℕ
-arity_of name [] = None
-arity_of name (pair ∷ rest) = if bytes_eq pair.0 name then Some pair.1 else arity_of name rest
 
 -- each type constructor has its declared number of arguments
 abbrev mutual

@@ -26,7 +26,7 @@ abbrev mutual
   types_eq (more a xs) none = false
   types_eq (more a xs) (more b ys) = type_eq a b && types_eq xs ys
 
--- the longest way down
+-- the longest way down, in which each step along a list of arguments counts
 abbrev mutual
   pub type_height : Typ → ℕ
   type_height (variable name) = 1
@@ -36,28 +36,38 @@ abbrev mutual
   types_height none = 1
   types_height (more first rest) = max (type_height first) (types_height rest) + 1
 
--- the number of parts
+-- the number of its variables and constructors
 abbrev mutual
   pub type_size : Typ → ℕ
   type_size (variable name) = 1
   type_size (applied name args) = types_size args + 1
 
   pub types_size : Typs → ℕ
-  types_size none = 1
-  types_size (more first rest) = type_size first + types_size rest + 1
+  types_size none = 0
+  types_size (more first rest) = type_size first + types_size rest
+
+-- its parts with the ends of lists of arguments, by which a walk ends
+abbrev mutual
+  pub type_parts : Typ → ℕ
+  type_parts (variable name) = 1
+  type_parts (applied name args) = types_parts args + 1
+
+  pub types_parts : Typs → ℕ
+  types_parts none = 1
+  types_parts (more first rest) = type_parts first + types_parts rest + 1
 
 -- the counts of a type, within their bounds
 pub record TypeCounts (height size : ℕ) (t : Typ) : Type 0 where
   pub height_is : height ≡ type_height t
   pub size_is : size ≡ type_size t
   pub low : height ≤ 1000
-  pub small : size ≤ 1048576
+  pub small : size ≤ 67108864
 
 pub record TypesCounts (height size : ℕ) (ts : Typs) : Type 0 where
   pub height_is : height ≡ types_height ts
   pub size_is : size ≡ types_size ts
   pub low : height ≤ 1000
-  pub small : size ≤ 1048576
+  pub small : size ≤ 67108864
 
 -- a number below 2 ^ 32 in which unequal types mostly differ
 abbrev mutual

@@ -1,12 +1,15 @@
 //! Names, types, terms, statements and signatures of higher-order logic.
 #![tactic(auto)]
 
+mod arities;
+mod chain;
 mod consts;
 mod index;
 mod instance;
 mod items;
 mod matching;
 mod name;
+mod number;
 mod place;
 mod signature;
 mod spine;
@@ -17,11 +20,15 @@ mod ty;
 mod typing;
 mod variables;
 
+pub use arities::Arities;
+pub use chain::Chain;
 pub use consts::Consts;
+pub use index::Declared;
 pub use instance::{find, inst, inst_ty, retype};
 pub use items::Items;
 pub use matching::{find_type, match_ty};
 pub use name::{Name, equality_name, function_name, is_name, numbered, truth_name};
+pub use number::next;
 pub use place::Place;
 pub use signature::Signature;
 pub use spine::{apply, arguments, head};

@@ -27,11 +27,16 @@ fn bind(pairs: &mut Vec<(Name, Ty)>, name: &Name, ty: &Ty) -> Result<(), AllocEr
     Ok(())
 }
 
-// Finds the pairs that make the pattern equal to the type, beside those that are there.
+// Finds the pairs that make the pattern equal to the type, beside those that are there. A pattern without variables is
+// compared by its hash first.
 #[cycle(matching)]
+#[tactic(auto, using(crate::proofs::Closed::closed_matched, crate::proofs::Closed::closed_unmatched))]
 fn match_onto(pairs: &mut Vec<(Name, Ty)>, pattern: &Ty, ty: &Ty) -> Result<bool, AllocError>
     ensures { IfOk result (λ found. MatchBool found (matched pairs.old.items pattern.now ty.now ≡ Some pairs.new.items) (matched pairs.old.items pattern.now ty.now ≡ None)) }
 {
+    if !pattern.is_polymorphic() {
+        return Ok(pattern.equals(ty));
+    }
     match pattern.node() {
         TyNode::Var(name) => match find_type(name, pairs.as_slice()) {
             Some(known) => Ok(known.equals(ty)),

@@ -1,9 +1,10 @@
+//! Signatures, and what of a term they don't declare.
 ghost use Rattle.std.specs.Prelude.{◌≡◌, ◌==◌, None, IfOk, MatchOption};
 ghost use Rattle.std.specs.Option.{option_copied};
 ghost use Rattle.fp_term.specs.Types.{count, found_type, is_instance};
 
+use crate::arities::Arities;
 use crate::consts::Consts;
-use crate::items::Items;
 use crate::matching::match_ty;
 use crate::name::Name;
 use crate::term::{Node, Term};
@@ -13,7 +14,7 @@ use std::alloc::{AllocError, Global};
 /// The type constructors with the number of their arguments, and the constants with their types.
 #[derive(Drop)]
 pub struct Signature {
-    pub types: Items<(Name, u32)>,
+    pub types: Arities,
     pub consts: Consts,
 }
 
@@ -32,16 +33,6 @@ fn is_instance_of(alloc: Global, declared: &Ty, ty: &Ty) -> Result<bool, AllocEr
     Ok(match_ty(alloc, declared, ty)?.is_some())
 }
 
-fn copy_arities(alloc: Global, pairs: &[(Name, u32)]) -> Result<Items<(Name, u32)>, AllocError>
-    ensures { IfOk result (λ copies. copies ≡ pairs.now) }
-{
-    let mut copies = Items::new(alloc);
-    for pair in pairs {
-        copies.push((pair.0.copy()?, pair.1))?;
-    }
-    Ok(copies)
-}
-
 impl Signature {
     ghost use Rattle.fp_term.specs.Signatures.{arity_of, has_count, has_instance, unknown_in, unknown_in_type, unknown_in_types, IsType, IsOver};
 
@@ -50,7 +41,7 @@ impl Signature {
         ensures { IfOk result (λ signature. signature ≡ self.now) }
     {
         Ok(Signature {
-            types: copy_arities(alloc, self.types.as_slice())?,
+            types: self.types.copy(alloc)?,
             consts: self.consts.copy(alloc)?,
         })
     }
@@ -59,12 +50,7 @@ impl Signature {
     pub fn arity(&self, name: &Name) -> Option<u32>
         ensures { result ≡ arity_of name.now self.now.types }
     {
-        for pair in self.types.as_slice() {
-            if pair.0.equals(name) {
-                return Some(pair.1);
-            }
-        }
-        None
+        self.types.find(name)
     }
 
     /// The declared type of the constant.

@@ -1,4 +1,4 @@
-// The full form, read and printed.
+//! The full form, read and printed.
 use crate::terms::{has_text, term};
 use fp_full::{
     Definition, FullFault, print_full, read_definitions, read_definitions_at, read_full,
@@ -181,4 +181,58 @@ fn files_of_definitions(rt: HostRuntime) {
     assert!(rt; file_is_read(alloc, FILE.as_bytes()) == Ok(true));
     assert!(rt; count_read(alloc, FILE.as_bytes()) == Ok(2));
     assert!(rt; count_read(alloc, b"definition a = {(b 0)") == Err(FullFault::Refused(21)));
+}
+
+// The words that name no constant in a file.
+const RESERVED: &[&str] = &[
+    "definition",
+    "typedef",
+    "lemma",
+    "simp",
+    "cong",
+    "constructors",
+    "size",
+    "measure",
+    "fun",
+    "function",
+    "and",
+    "where",
+    "proof",
+    "end",
+    "abs",
+    "rep",
+    "by",
+    "if",
+    "then",
+    "else",
+];
+
+fn defining(alloc: Global, name: &str, after: &str) -> Result<Vec<u8>, AllocError> {
+    let mut text = Vec::new(alloc);
+    text.extend_from_slice(b"definition ")?;
+    text.extend_from_slice(name.as_bytes())?;
+    text.extend_from_slice(after.as_bytes())?;
+    text.extend_from_slice(b" = {(b 0)}")?;
+    Ok(text)
+}
+
+// Is a definition of the word with that after it read?
+fn is_definable(alloc: Global, word: &str, after: &str) -> Result<bool, AllocError> {
+    let text = defining(alloc, word, after)?;
+    if text.len() > 1000 {
+        return Err(AllocError);
+    }
+    match read_definitions(alloc, text.as_slice()) {
+        Ok(_definitions) => Ok(true),
+        Err(FullFault::NoMemory) => Err(AllocError),
+        Err(_fault) => Ok(false),
+    }
+}
+
+#[test]
+fn reserved_words(rt: HostRuntime) {
+    for word in RESERVED {
+        assert!(rt; is_definable(rt.alloc(), word, "") == Ok(false), "{word}");
+        assert!(rt; is_definable(rt.alloc(), word, "_") == Ok(true), "{word}");
+    }
 }

@@ -1,4 +1,4 @@
-// Matching of terms.
+//! Matching of terms.
 use crate::terms::term;
 use fp_full::print_full_term;
 use fp_match::{Inst, match_term};

@@ -1,4 +1,4 @@
-// Files and sinks in memory, and real ones.
+//! Files and sinks in memory, and real ones.
 ghost use Rattle.std.specs.Prelude.{◌≡◌, IfOk};
 
 use fp_outside::{

@@ -1,4 +1,4 @@
-// The short form, printed.
+//! The short form, printed.
 ghost use Rattle.std.specs.Prelude.{IfOk};
 ghost use Rattle.fp_print.specs.Numbers.{HasOnly};
 

@@ -1,7 +1,7 @@
-// Names, types and terms.
+//! Names, types and terms.
 use fp_full::{print_full_term, read_full_term};
 use fp_term::{
-    Items, Name, Signature, Term, Ty, Tys, close_over, copy_all, depth, first_free, function_of,
+    Arities, Consts, Name, Signature, Term, Ty, Tys, close_over, copy_all, depth, first_free, function_of,
     hidden_type, inst, match_ty, nodes, open_with, same, truth_name, type_of,
 };
 use std::alloc::{AllocError, Global};
@@ -266,20 +266,20 @@ fn matching_of_types(rt: HostRuntime) {
     }
 }
 
-fn push_truth_type(alloc: Global, types: &mut Items<(Name, u32)>) -> Result<(), AllocError> {
+fn push_truth_type(alloc: Global, types: &mut Arities) -> Result<(), AllocError> {
     types.push((truth_name(alloc)?, 0))
 }
 
-fn push_truth(alloc: Global, consts: &mut Items<(Name, Ty)>) -> Result<(), AllocError> {
+fn push_truth(alloc: Global, consts: &mut Consts) -> Result<(), AllocError> {
     let name = name(alloc, "T")?;
     consts.push((name, truth(alloc)?))
 }
 
 // The signature with the type `bool` and the constant `T`.
-fn small_signature(alloc: Global) -> Result<Signature, AllocError> {
+pub fn small_signature(alloc: Global) -> Result<Signature, AllocError> {
     let mut signature = Signature {
-        types: Items::new(alloc),
-        consts: Items::new(alloc),
+        types: Arities::new(alloc)?,
+        consts: Consts::new(alloc)?,
     };
     push_truth_type(alloc, &mut signature.types)?;
     push_truth(alloc, &mut signature.consts)?;

@@ -5,4 +5,4 @@ use Rattle.fp_print.proofs.printer.print_later.Given as goal
 
 abbrev pub invariant-loop-hyp : goal.invariant-loop-hyp
 invariant-loop-hyp l = AllHaveOnly 0 (drop l.hyp-index l.hyps)
-    × (l.out.items ++ later_hypotheses l.used (drop l.hyp-index l.hyps) ≡ l.initial.out.items ++ later_hypotheses l.used l.hyps)
+    × (l.out.items ++ later_hypotheses l.names (drop l.hyp-index l.hyps) ≡ l.initial.out.items ++ later_hypotheses l.names l.hyps)
