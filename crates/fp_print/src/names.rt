@@ -1,5 +1,5 @@
 //! The names of bound variables.
-ghost use Rattle.std.specs.Prelude.{◌≡◌, ◌+◌, ◌++◌, [], ◌∷◌, OnOk, IfOk};
+ghost use Rattle.std.specs.Prelude.{◌≡◌, ◌+◌, ◌++◌, [], ◌∷◌, OnOk, IfOk, IfSome};
 ghost use Rattle.fp_term.specs.Variables.{is_among};
 ghost use Rattle.fp_print.specs.Names.{candidate, with_name, with_names, with_names_of_all, next_place, place_of, binder_name, binder_names};
 
@@ -247,8 +247,19 @@ fn push_made_name(out: &mut Vec<u8>, used: &[Name], depth: u32) -> Result<(), Al
     out.extend_from_slice(name.as_slice())
 }
 
+impl BinderNames {
+    // The name of a binder inside so many others, where it is made.
+    fn made_name(&self, depth: u32) -> Option<&Items<u8>>
+        ensures { IfSome result (λ name. name.now ≡ binder_name self.now depth) }
+    {
+        match self.known.as_slice().get(depth as usize) {
+            Some(name) => Some(name),
+            None => None,
+        }
+    }
+}
+
 /// Puts the name of a binder inside so many others at the end.
-#[tactic(auto, using(crate::proofs::Known::known_name))]
 pub(crate) fn push_binder_name(
     out: &mut Vec<u8>,
     names: &BinderNames,
@@ -256,7 +267,7 @@ pub(crate) fn push_binder_name(
 ) -> Result<(), AllocError>
     ensures { OnOk result (out.new.items ≡ out.old.items ++ binder_name names.now depth) }
 {
-    match names.known.as_slice().get(depth as usize) {
+    match names.made_name(depth) {
         Some(name) => out.extend_from_slice(name.as_slice()),
         None => push_made_name(out, names.used.as_slice(), depth),
     }

@@ -69,7 +69,7 @@ fn print_among(out: &mut Vec<u8>, names: &BinderNames, term: &Term) -> Result<()
     requires { HasOnly 0 term.now }
     ensures { OnOk result (out.new.items ≡ out.old.items ++ text_among names.now term.now) }
 {
-    print_placed(out, used, 0, Place::Alone, term)
+    print_placed(out, names, 0, Place::Alone, term)
 }
 
 // A hypothesis after the first.
