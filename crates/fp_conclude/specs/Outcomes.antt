@@ -6,7 +6,7 @@ use Rattle.fp_term.specs.declared.typing.TypeOfFault.TheVariants as typing
 use Rattle.fp_conclude.specs.declared.fault.RuleFault.{RuleFault}
 use Rattle.fp_conclude.specs.declared.fault.RuleFault.TheVariants.{UnknownName, IllTyped, NotEquation, NotRedex, NotBool, Shape, Differ, FreeInHyps, NoSuchPromise, PromiseOrder, NoMemory}
 
--- in the order in which they are tried; a result that is ill typed comes after `free_in_hyps`
+-- of rules, in the order in which they are tried; a result that is ill typed comes after `free_in_hyps`
 pub data Refusal : Type 0 where
   unknown_name : List ℕ → Refusal
   ill_typed_at : List ℕ → Refusal
@@ -18,6 +18,11 @@ pub data Refusal : Type 0 where
   free_in_hyps : List ℕ → Refusal
   no_such_promise : ℕ → Refusal
   promise_order : ℕ → Refusal
+  -- of definitions besides; the first comes before all others
+  name_taken : List ℕ → Refusal
+  not_inhabited_form : Refusal
+  not_closed : List ℕ → Refusal
+  hidden_type : List ℕ → Refusal
 
 pub data Outcome (A : Type 0) : Type 0 where
   gives : A → Outcome A

@@ -58,8 +58,8 @@ pub fn equality_in(term: &Term) -> &Term
     function_in(function_in(term))
 }
 
-// The type from which functions of the type lead.
-fn source(ty: &Ty) -> &Ty
+/// The type from which functions of the type lead.
+pub fn source(ty: &Ty) -> &Ty
     requires { (s r : Typ) × (ty.now ≡ function_type s r) }
     ensures { result.now ≡ source ty.now }
 {

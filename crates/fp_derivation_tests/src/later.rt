@@ -106,7 +106,7 @@ fn has_constant(alloc: Global, defs: &Defs) -> Result<bool, AllocError> {
 }
 
 fn copy_has_constant(alloc: Global, defs: &Defs) -> Result<bool, AllocError> {
-    let copy = defs.copy(alloc)?;
+    let copy = defs.copy()?;
     has_constant(alloc, &copy)
 }
 

@@ -27,13 +27,13 @@ use Rattle.fp_kernel.specs.Derivability.{Derives, refl as reflexive, trans, mk_c
 use Rattle.fp_kernel.proofs.Growing.{from_start, over_grows}
 
 -- functions and truth values are types over any definitions
-fun_is : (defs : List Def) → arity_of function (signature_of defs).types ≡ Some 2
+pub fun_is : (defs : List Def) → arity_of function (signature_of defs).types ≡ Some 2
 fun_is defs = (from_start defs).types function 2 refl
 
-truth_is : (defs : List Def) → IsType (signature_of defs) truth_type
+pub truth_is : (defs : List Def) → IsType (signature_of defs) truth_type
 truth_is defs = ((from_start defs).types truth 0 refl, tt)
 
-function_is : (defs : List Def) (s r : Typ) → IsType (signature_of defs) s → IsType (signature_of defs) r → IsType (signature_of defs) (function_type s r)
+pub function_is : (defs : List Def) (s r : Typ) → IsType (signature_of defs) s → IsType (signature_of defs) r → IsType (signature_of defs) (function_type s r)
 function_is defs s r h k = (fun_is defs, (h, (k, tt)))
 
 -- what makes an equation a formula
@@ -48,7 +48,7 @@ equality_over defs s h = (
   function_is defs s (predicate_type s) h (function_is defs s truth_type h (truth_is defs)),
 )
 
-equation : (defs : List Def) (s : Typ) (t u : Tm) → Sides (signature_of defs) s t u → IsFormula (signature_of defs) (equal s t u)
+pub equation : (defs : List Def) (s : Typ) (t u : Tm) → Sides (signature_of defs) s t u → IsFormula (signature_of defs) (equal s t u)
 equation defs s t u h =
     let eq = constant equality (equality_type s) in
     record {
@@ -125,7 +125,7 @@ reduced_formula defs s ty body arg h =
       right = reduced (signature_of defs) s ty body arg h;
     })
 
-both_formula : (defs : List Def) (p q : Tm) → IsFormula (signature_of defs) p → IsFormula (signature_of defs) q → IsFormula (signature_of defs) (equal truth_type p q)
+pub both_formula : (defs : List Def) (p q : Tm) → IsFormula (signature_of defs) p → IsFormula (signature_of defs) q → IsFormula (signature_of defs) (equal truth_type p q)
 both_formula defs p q h k = equation defs truth_type p q (record { type = truth_is defs; left = h; right = k })
 
 -- the term that is found for a variable has its type

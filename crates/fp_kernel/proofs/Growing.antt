@@ -1,5 +1,5 @@
 -- What is well typed over a signature stays so over a larger one.
-use Rattle.std.proofs.Common.{◌≡◌, ℕ, List, [], ◌∷◌, ◌++◌, refl, sym, ap}
+use Rattle.std.proofs.Common.{◌≡◌, ◌∙◌, ℕ, false, List, [], ◌∷◌, ◌++◌, refl, sym, ap}
 use Rattle.std.specs.Prelude.{Some, None}
 use Rattle.std.specs.Str.{bytes_eq}
 use Rattle.std.proofs.lemmas.Option.{none-some}
@@ -8,7 +8,7 @@ use Rattle.fp_term.specs.declared.signature.Signature.{Signature}
 use Rattle.fp_term.specs.Types.{Typ, Typs, variable, applied, none, more, found_type, retyped, all_retyped, IsInstance}
 use Rattle.fp_term.specs.Terms.{Tm, bound, free, constant, app, abs}
 use Rattle.fp_term.specs.Signatures.{arity_of, IsType, AreTypes, IsConstant, IsOver}
-use Rattle.fp_term.proofs.Choices.{chosen_alike}
+use Rattle.fp_term.proofs.Choices.{chosen, chosen_alike}
 use Rattle.fp_kernel.specs.Definitions.{Def}
 use Rattle.fp_kernel.specs.Start.{signature_of, types_of, constants_of}
 
@@ -16,10 +16,24 @@ found-append : (ps qs : List (List ℕ × Typ)) (a : List ℕ) (t : Typ) → fou
 found-append [] qs a t e = absurd (none-some t e)
 found-append (p ∷ ps) qs a t e = chosen_alike (bytes_eq p.0 a) _ _ _ _ _ _ (λ _ f. f) (λ _ f. found-append ps qs a t f) e
 
--- a name without a type gets the new one
-pub found_last : (ps : List (List ℕ × Typ)) (a : List ℕ) (t : Typ) → found_type a ps ≡ None → found_type a (ps ++ (a, t) ∷ []) ≡ Some t
-found_last [] a t e = rw ((bytes_eq-Decides a a).1 refl) refl
-found_last (p ∷ ps) a t e = chosen_alike (bytes_eq p.0 a) _ _ _ _ _ _ (λ _ f. absurd (none-some p.1 (sym f))) (λ _ f. found_last ps a t f) e
+-- a name without a type is looked for among the new ones
+pub found_after : (ps qs : List (List ℕ × Typ)) (a : List ℕ) → found_type a ps ≡ None → found_type a (ps ++ qs) ≡ found_type a qs
+found_after [] qs a e = refl
+found_after (p ∷ ps) qs a e = chosen (bytes_eq p.0 a) _ _ _ (found_type a (p ∷ ps ++ qs) ≡ found_type a qs) (λ _ f. absurd (none-some p.1 (sym f))) (λ no f. rw no (found_after ps qs a f)) e
+
+found_here : (a : List ℕ) (t : Typ) (qs : List (List ℕ × Typ)) → found_type a ((a, t) ∷ qs) ≡ Some t
+found_here a t qs = rw ((bytes_eq-Decides a a).1 refl) refl
+
+-- a new name gets its type
+pub found_new : (ps qs : List (List ℕ × Typ)) (a : List ℕ) (t : Typ) → found_type a ps ≡ None → found_type a (ps ++ (a, t) ∷ qs) ≡ Some t
+found_new ps qs a t e = found_after ps ((a, t) ∷ qs) a e ∙ found_here a t qs
+
+pub found_second : (ps : List (List ℕ × Typ)) (a b : List ℕ) (s t : Typ) → found_type b ps ≡ None → bytes_eq a b ≡ false → found_type b (ps ++ (a, s) ∷ (b, t) ∷ []) ≡ Some t
+found_second ps a b s t e apart = found_after ps ((a, s) ∷ (b, t) ∷ []) b e ∙ (rw apart (found_here b t []))
+
+pub arity_new : (ps : List (List ℕ × ℕ)) (a : List ℕ) (n : ℕ) → arity_of a ps ≡ None → arity_of a (ps ++ (a, n) ∷ []) ≡ Some n
+arity_new [] a n e = rw ((bytes_eq-Decides a a).1 refl) refl
+arity_new (p ∷ ps) a n e = chosen_alike (bytes_eq p.0 a) _ _ _ _ _ _ (λ _ f. absurd (none-some p.1 (sym f))) (λ _ f. arity_new ps a n f) e
 
 arity-append : (ps qs : List (List ℕ × ℕ)) (a : List ℕ) (n : ℕ) → arity_of a ps ≡ Some n → arity_of a (ps ++ qs) ≡ Some n
 arity-append [] qs a n e = absurd (none-some n e)

@@ -1,17 +1,14 @@
--- What is derivable stays so over a longer list of definitions and with more promises.
-use Rattle.std.proofs.Common.{◌≡◌, ℕ, Bool, true, false, cond, ◌&&◌, ◌||◌, ◌==◌, List, [], ◌∷◌, ◌++◌, refl as same_path}
-use Rattle.std.proofs.lemmas.Bool.Decides.{Decides-eqb}
+-- What is derivable stays so over a longer list of definitions, with more promises, and with what its promises rest on.
+use Rattle.std.proofs.Common.{ℕ, List, [], ◌∷◌}
 use Rattle.fp_term.specs.declared.signature.Signature.{Signature}
 use Rattle.fp_term.specs.Types.{Typ}
-use Rattle.fp_term.specs.Terms.{Tm, term_eq}
+use Rattle.fp_term.specs.Terms.{Tm}
 use Rattle.fp_term.specs.Signatures.{IsWellTyped}
-use Rattle.fp_term.proofs.Equal.{term_eq-decides}
 use Rattle.fp_conclude.specs.Checks.{AreTerms, AreTypesOf}
 use Rattle.fp_kernel.specs.Definitions.{Def, Within, whole, newer}
 use Rattle.fp_kernel.specs.Start.{signature_of}
-use Rattle.fp_kernel.specs.Derivability.{IsIn, first, later}
+use Rattle.fp_kernel.specs.Derivability.{IsIn, first, later, IsFormula}
 use Rattle.fp_kernel.specs.Derivability.{Derives, refl, trans, mk_comb, lam, beta, assume, eq_mp, antisym, inst, inst_ty, axiom_of, connective_of, constant_of, abs_rep_of, rep_abs_of, promise_of, as_set}
-use Rattle.fp_kernel.specs.Theorems.{promised, promise_union}
 use Rattle.fp_kernel.proofs.Growing.{Grows, one_more, type_grows, over_grows}
 
 -- each of the one list is one of the other
@@ -30,8 +27,12 @@ module _ (old new : Signature) (g : Grows old new) where
   types_grow [] h = tt
   types_grow (pair ∷ rest) h = (type_grows old new g pair.1 h.0, types_grow rest h.1)
 
-module _ {old new : List Def} {promises more : List (ℕ × Tm)} (g : Grows (signature_of old) (signature_of new)) (i : Among old new) (j : Among promises more) where
-  carried : {hyps : List Tm} {p : Tm} → Derives old promises hyps p → Derives new more hyps p
+-- each promise of the one list is derivable from the other
+abbrev pub AreMet : List Def → List (ℕ × Tm) → List (ℕ × Tm) → Type 0
+AreMet defs promises more = (number : ℕ) (p : Tm) → IsIn (number, p) promises → IsFormula (signature_of defs) p → Derives defs more [] p
+
+module _ {old new : List Def} {promises more : List (ℕ × Tm)} (g : Grows (signature_of old) (signature_of new)) (i : Among old new) (j : AreMet new promises more) where
+  pub carried : {hyps : List Tm} {p : Tm} → Derives old promises hyps p → Derives new more hyps p
   carried (refl s t h) = refl s t (typed_grows (signature_of old) (signature_of new) g t s h)
   carried (trans d e) = trans (carried d) (carried e)
   carried (mk_comb d e) = mk_comb (carried d) (carried e)
@@ -47,7 +48,7 @@ module _ {old new : List Def} {promises more : List (ℕ × Tm)} (g : Grows (sig
   carried (constant_of k h) = constant_of (i _ k) (typed_grows (signature_of old) (signature_of new) g _ _ h)
   carried (abs_rep_of k h) = abs_rep_of (i _ k) (typed_grows (signature_of old) (signature_of new) g _ _ h)
   carried (rep_abs_of k h) = rep_abs_of (i _ k) (typed_grows (signature_of old) (signature_of new) g _ _ h)
-  carried (promise_of k h) = promise_of (j _ k) (typed_grows (signature_of old) (signature_of new) g _ _ h)
+  carried (promise_of k h) = j _ _ k (typed_grows (signature_of old) (signature_of new) g _ _ h)
   carried (as_set same d) = as_set same (carried d)
 
 all_grow : {old new : List Def} → Within old new → Grows (signature_of old) (signature_of new)
@@ -62,54 +63,8 @@ all_there whole = λ x i. i
 all_there (newer d w) = λ x i. later (all_there w x i)
 
 pub later_all : {old new : List Def} {promises more : List (ℕ × Tm)} {hyps : List Tm} {p : Tm} → Within old new → Among promises more → Derives old promises hyps p → Derives new more hyps p
-later_all w j d = carried (all_grow w) (all_there w) j d
+later_all w j d = carried (all_grow w) (all_there w) (λ number p k h. promise_of (j (number, p) k) h) d
 
--- the promises of two theorems are among their union
-abbrev Promises : Type 0
-Promises = List (ℕ × Tm)
-
-in_append : (ps qs : Promises) → Among ps (ps ++ qs)
-in_append [] qs x i = elim i [ ]
-in_append (p ∷ ps) qs x first = first
-in_append (p ∷ ps) qs x (later i) = later (in_append ps qs x i)
-
-last_of : (ps : Promises) (q : ℕ × Tm) → IsIn q (ps ++ q ∷ [])
-last_of [] q = first
-last_of (p ∷ ps) q = later (last_of ps q)
-
-kept_unless : (b : Bool) (ps : Promises) (q : ℕ × Tm) → Among ps (cond b ps (ps ++ q ∷ []))
-kept_unless true ps q x i = i
-kept_unless false ps q x i = in_append ps (q ∷ []) x i
-
-pub first_promises : (ps qs : Promises) → Among ps (promise_union ps qs)
-first_promises ps [] x i = i
-first_promises ps (q ∷ qs) x i = first_promises (cond (promised q ps) ps (ps ++ q ∷ [])) qs x (kept_unless (promised q ps) ps q x i)
-
-one_of_two : (a b : Bool) (P : Type 0) → (a ≡ true → P) → (b ≡ true → P) → (a || b) ≡ true → P
-one_of_two true b P f g e = f same_path
-one_of_two false b P f g e = g e
-
-both_of : (a b : Bool) → (a && b) ≡ true → (a ≡ true) × (b ≡ true)
-both_of true b e = (same_path, e)
-both_of false b e = cc
-
-same_pair : (a b : ℕ) (t u : Tm) → a ≡ b → t ≡ u → ◌≡◌ {A = ℕ × Tm} (a, t) (b, u)
-same_pair a b t u e f = rw (e, f) same_path
-
-promised_in : (p : ℕ × Tm) (ps : Promises) → promised p ps ≡ true → IsIn p ps
-promised_in p [] e = cc
-promised_in p (q ∷ ps) e =
-    one_of_two (p.0 == q.0 && term_eq p.1 q.1) (promised p ps) (IsIn p (q ∷ ps))
-    (λ is. let b = both_of (p.0 == q.0) (term_eq p.1 q.1) is in
-    let same = same_pair p.0 q.0 p.1 q.1 ((Decides-eqb p.0 q.0).0 b.0) ((term_eq-decides p.1 q.1).0 b.1) in
-    rw same first)
-    (λ is. later (promised_in p ps is)) e
-
-there : (b : Bool) (ps : Promises) (q : ℕ × Tm) → promised q ps ≡ b → IsIn q (cond b ps (ps ++ q ∷ []))
-there true ps q e = promised_in q ps e
-there false ps q e = last_of ps q
-
-pub second_promises : (ps qs : Promises) → Among qs (promise_union ps qs)
-second_promises ps [] x i = elim i [ ]
-second_promises ps (q ∷ qs) x first = first_promises (cond (promised q ps) ps (ps ++ q ∷ [])) qs x (there (promised q ps) ps q same_path)
-second_promises ps (q ∷ qs) x (later i) = second_promises (cond (promised q ps) ps (ps ++ q ∷ [])) qs x i
+-- with what its promises rest on in place of the promises
+pub met_all : {old new : List Def} {promises more : List (ℕ × Tm)} {hyps : List Tm} {p : Tm} → Within old new → AreMet new promises more → Derives old promises hyps p → Derives new more hyps p
+met_all w j d = carried (all_grow w) (all_there w) j d

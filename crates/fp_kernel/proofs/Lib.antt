@@ -1,10 +1,16 @@
 pub mod Growing
 pub mod Defined
+pub mod NewTypes
+pub mod Names
+pub mod Oldest
 pub mod Formulas
 pub mod Assumed
 pub mod Later
+pub mod Among
 pub mod Promised
 pub mod Sound
 pub mod Premises
+pub mod Cuts
 pub mod Started
+pub mod ByRule
 pub mod Unchecked

@@ -10,7 +10,8 @@ use Rattle.fp_kernel.specs.Definitions.{Def, Within}
 use Rattle.fp_kernel.specs.Start.{signature_of}
 use Rattle.fp_kernel.specs.Derivability.{Derives, antisym}
 use Rattle.fp_kernel.specs.Theorems.{Theorem, IsTheorem, promise_union}
-use Rattle.fp_kernel.proofs.Later.{later_all, first_promises, second_promises}
+use Rattle.fp_kernel.proofs.Later.{later_all}
+use Rattle.fp_kernel.proofs.Among.{first_promises, second_promises}
 use Rattle.fp_kernel.proofs.Sound.{trans_sound, mk_comb_sound, lam_sound, eq_mp_sound, inst_sound, inst_ty_sound}
 
 -- a theorem over a longer list

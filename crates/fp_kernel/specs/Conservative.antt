@@ -1,23 +1,18 @@
 -- Lists of definitions of which each is made over the ones before it.
-use Rattle.std.specs.Prelude.{◌≡◌, ℕ, true, false, if◌then◌else◌, List, [], ◌∷◌, ◌++◌, None}
+use Rattle.std.specs.Prelude.{◌≡◌, ℕ, true, false, List, [], ◌∷◌, None}
 use Rattle.std.specs.Str.{bytes_eq}
 use Rattle.fp_term.specs.Types.{Typ, found_type}
 use Rattle.fp_term.specs.Terms.{Tm, app}
 use Rattle.fp_term.specs.Signatures.{arity_of, IsWellTyped}
 use Rattle.fp_term.specs.Variables.{free_names, type_names, type_names_in, is_among}
 use Rattle.fp_kernel.specs.Definitions.{Def, new_constant, new_type}
-use Rattle.fp_kernel.specs.Start.{signature_of}
+use Rattle.fp_kernel.specs.Start.{signature_of, distinct_after}
 use Rattle.fp_kernel.specs.Derivability.{Derives}
 
 -- each of the names is one of the known
 abbrev pub AllAmong : List (List ℕ) → List (List ℕ) → Type 0
 AllAmong known [] = Unit {0}
 AllAmong known (name ∷ names) = (is_among known name ≡ true) × AllAmong known names
-
--- the names in order of their first occurrence, after the known ones
-abbrev pub distinct_after : List (List ℕ) → List (List ℕ) → List (List ℕ)
-distinct_after known [] = known
-distinct_after known (name ∷ names) = distinct_after (if is_among known name then known else known ++ name ∷ []) names
 
 -- a new name for a closed and well-typed term, of which each type variable is in its type
 pub record IsNewConstant (older : List Def) (name : List ℕ) (type : Typ) (body : Tm) : Type 0 where

@@ -1,5 +1,5 @@
 -- Definitions as data, and lists of them with the newest first.
-use Rattle.std.specs.Prelude.{ℕ, List, ◌∷◌}
+use Rattle.std.specs.Prelude.{ℕ, nat_lt, if◌then◌else◌, List, [], ◌∷◌, length}
 use Rattle.fp_term.specs.Types.{Typ}
 use Rattle.fp_term.specs.Terms.{Tm}
 
@@ -13,3 +13,8 @@ pub data Def : Type 0 where
 pub data Within : List Def → List Def → Type 0 where
   whole : {defs : List Def} → Within defs defs
   newer : {old defs : List Def} (d : Def) → Within old defs → Within old (d ∷ defs)
+
+-- the first definitions of the list, of that number
+abbrev pub oldest : ℕ → List Def → List Def
+oldest level [] = []
+oldest level (d ∷ older) = if nat_lt (length older) level then d ∷ older else oldest level older

@@ -1,5 +1,5 @@
 -- What each rule asks of premises of which it is known that it gives a theorem, and that theorem.
-use Rattle.std.specs.Prelude.{◌≡◌, ℕ, false, List}
+use Rattle.std.specs.Prelude.{◌≡◌, ℕ, true, false, List, [], ◌∷◌, None}
 use Rattle.fp_term.specs.Types.{Typ}
 use Rattle.fp_term.specs.Terms.{Tm, replaced, retyped_term}
 use Rattle.fp_term.specs.Signatures.{IsType, IsWellTyped}
@@ -9,7 +9,7 @@ use Rattle.fp_conclude.specs.Checks.{AreTerms, AreTypesOf}
 use Rattle.fp_conclude.specs.Shapes.{side_type, right, IsEquation, IsEquationOn, IsEquationFrom}
 use Rattle.fp_kernel.specs.Definitions.{Def, Within}
 use Rattle.fp_kernel.specs.Start.{signature_of}
-use Rattle.fp_kernel.specs.Theorems.{Theorem, promise_union}
+use Rattle.fp_kernel.specs.Theorems.{Theorem, promise_union, first_not_below, fulfils}
 
 -- the term is well typed over the definitions
 abbrev pub IsTyped : List Def → Tm → Type 0
@@ -50,3 +50,11 @@ CanInstTy defs pairs a = Within a.defs defs × AreTypesOf (signature_of defs) pa
 
 abbrev pub type_instance : List Def → List (List ℕ × Typ) → Theorem → Theorem
 type_instance defs pairs a = record { defs = defs; promises = a.promises; hyps = all_retyped_terms pairs a.hyps; concl = retyped_term pairs a.concl }
+
+-- a formula that is promised under a number
+abbrev pub promised_formula : List Def → ℕ → Tm → Theorem
+promised_formula defs number p = record { defs = defs; promises = (number, p) ∷ []; hyps = []; concl = p }
+
+-- the second proves the first's promise of that number, by promises of lower numbers
+abbrev pub CanCut : List Def → Theorem → ℕ → Theorem → Type 0
+CanCut defs a number proof = Within a.defs defs × Within proof.defs defs × (fulfils a number proof ≡ true) × (first_not_below number proof.promises ≡ None)

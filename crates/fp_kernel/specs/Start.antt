@@ -1,9 +1,10 @@
 -- The signature of the start and that of a list of definitions, and what is said of a new type.
-use Rattle.std.specs.Prelude.{ℕ, List, [], ◌∷◌, ◌++◌, length, Option, Some, codes}
+use Rattle.std.specs.Prelude.{ℕ, if◌then◌else◌, List, [], ◌∷◌, ◌++◌, length, Option, Some, codes}
 use Rattle.fp_term.specs.Names.{function, truth, equality}
 use Rattle.fp_term.specs.Types.{Typ, Typs, variable, applied, none, more}
 use Rattle.fp_term.specs.Terms.{Tm, free, constant, app}
 use Rattle.fp_term.specs.Typing.{type_under, function_type}
+use Rattle.fp_term.specs.Variables.{is_among}
 use Rattle.fp_term.specs.declared.signature.Signature.{Signature}
 use Rattle.fp_kernel.specs.Definitions.{Def, new_constant, new_type}
 use Rattle.fp_conclude.specs.Logic.{truth_type, alpha, predicate_type, binary_type, equality_type, select_type, quantifier_type, equal}
@@ -25,6 +26,11 @@ start_quantifiers = (codes "all", quantifier_type alpha) ∷ (codes "ex", quanti
 
 abbrev pub start_constants : List (List ℕ × Typ)
 start_constants = start_truths ++ start_connectives ++ start_quantifiers
+
+-- the names in order of their first occurrence, after the known ones
+abbrev pub distinct_after : List (List ℕ) → List (List ℕ) → List (List ℕ)
+distinct_after known [] = known
+distinct_after known (name ∷ names) = distinct_after (if is_among known name then known else known ++ name ∷ []) names
 
 -- a new type, applied to its parameters
 abbrev pub variables : List (List ℕ) → Typs

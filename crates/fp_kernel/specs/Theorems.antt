@@ -1,8 +1,8 @@
 -- What contracts see of a theorem.
-use Rattle.std.specs.Prelude.{◌≡◌, ℕ, Bool, false, ◌&&◌, ◌||◌, ◌==◌, if◌then◌else◌, List, [], ◌∷◌, ◌++◌}
+use Rattle.std.specs.Prelude.{◌≡◌, ℕ, Bool, false, not, ◌&&◌, ◌||◌, ◌==◌, nat_lt, if◌then◌else◌, List, [], ◌∷◌, ◌++◌, filter, length, Option, Some, None}
 use Rattle.fp_term.specs.Terms.{Tm, term_eq}
 use Rattle.fp_conclude.specs.Hypotheses.{union}
-use Rattle.fp_conclude.specs.Outcomes.{Outcome, gives, refused}
+use Rattle.fp_conclude.specs.Outcomes.{Outcome, gives, refused, no_such_promise, promise_order}
 use Rattle.fp_kernel.specs.Definitions.{Def}
 use Rattle.fp_kernel.specs.Derivability.{Derives}
 
@@ -15,10 +15,13 @@ pub record Theorem : Type 0 where
 abbrev pub IsTheorem : Theorem → Type 0
 IsTheorem th = Derives th.defs th.promises th.hyps th.concl
 
--- is there such a promise?
+-- are they one promise, and is there such a promise?
+abbrev pub same_promise : ℕ × Tm → ℕ × Tm → Bool
+same_promise p q = p.0 == q.0 && term_eq p.1 q.1
+
 abbrev pub promised : ℕ × Tm → List (ℕ × Tm) → Bool
 promised p [] = false
-promised p (q ∷ promises) = (p.0 == q.0 && term_eq p.1 q.1) || promised p promises
+promised p (q ∷ promises) = same_promise p q || promised p promises
 
 -- none stands twice
 abbrev pub ArePromises : List (ℕ × Tm) → Type 0
@@ -59,3 +62,32 @@ from_two defs a b hyps o = stands defs (promise_union a.promises b.promises) hyp
 
 abbrev pub from_both : List Def → Theorem → Theorem → Outcome Tm → Outcome Theorem
 from_both defs a b o = from_two defs a b (union a.hyps b.hyps) o
+
+-- the promises without one, and the first number of promises that isn't below a number
+abbrev pub without_promise : ℕ × Tm → List (ℕ × Tm) → List (ℕ × Tm)
+without_promise p promises = filter (λ q. not (same_promise p q)) promises
+
+abbrev pub first_not_below : ℕ → List (ℕ × Tm) → Option ℕ
+first_not_below number [] = None
+first_not_below number (p ∷ promises) = if nat_lt p.0 number then first_not_below number promises else Some p.0
+
+-- a theorem, with its proof's promises in place of the promise that it proves
+abbrev pub fulfilled : List Def → Theorem → ℕ → Theorem → Theorem
+fulfilled defs a number proof = record {
+  defs = defs;
+  promises = promise_union (without_promise (number, proof.concl) a.promises) proof.promises;
+  hyps = a.hyps;
+  concl = a.concl;
+}
+
+-- is that a promise of the first theorem, and is the second without hypotheses?
+abbrev pub fulfils : Theorem → ℕ → Theorem → Bool
+fulfils a number proof = promised (number, proof.concl) a.promises && (length proof.hyps == 0)
+
+abbrev pub unless_late : Option ℕ → Theorem → Outcome Theorem
+unless_late None th = gives th
+unless_late (Some number) th = refused (promise_order number)
+
+abbrev pub cut_of : List Def → Theorem → ℕ → Theorem → Outcome Theorem
+cut_of defs a number proof =
+    if fulfils a number proof then unless_late (first_not_below number proof.promises) (fulfilled defs a number proof) else refused (no_such_promise number)

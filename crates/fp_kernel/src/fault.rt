@@ -1,20 +1,26 @@
+//! Why a definition is refused.
 ghost use Rattle.std.specs.Prelude.{◌≡◌};
-ghost use Rattle.fp_kernel.specs.Defining.{FaultIs, refused, name_taken, unknown_name, not_closed, hidden_type, SameTyping};
+ghost use Rattle.fp_term.specs.Types.{Typ};
+ghost use Rattle.fp_conclude.specs.Outcomes.{refused, name_taken, unknown_name, not_closed, hidden_type};
+ghost use Rattle.fp_kernel.specs.Definitions.{Def};
+ghost use Rattle.fp_kernel.specs.Defining.{FaultIs, SameTyping};
 ghost use Rattle.fp_kernel.specs.declared.fault.DefFault.TheVariants.{NoMemory};
 
 use fp_term::{Name, Place, TypeOfFault};
 use std::alloc::AllocError;
 
-/// Why a definition is refused.
+/// Why a definition is refused, in the order in which the causes are tried.
 #[derive(Drop)]
 pub enum DefFault {
-    /// There is such a constant.
+    /// There is such a constant or type, or the constants of a new type have one name.
     NameTaken(Name),
     /// The first name of the body, from the left, that isn't in the signature as it stands there.
     UnknownName(Name),
     /// The place of the body's first ill-typed subterm in post-order.
     IllTyped(Place),
-    /// The first free variable of the body.
+    /// The theorem that a new type is made from has hypotheses or promises, or doesn't state an application.
+    NotInhabitedForm,
+    /// The first free variable of the body, or of the predicate.
     NotClosed(Name),
     /// The first type variable of the body that its type lacks.
     HiddenType(Name),
@@ -41,7 +47,8 @@ impl From<TypeOfFault> for DefFault {
 }
 
 pub(crate) fn name_taken(name: &Name) -> DefFault
-    ensures { FaultIs result (refused (name_taken name.now)) }
+    ensures constant { FaultIs {A = Typ} result (refused (name_taken name.now)) }
+    ensures new_type { FaultIs {A = Def} result (refused (name_taken name.now)) }
 {
     match name.copy() {
         Ok(name) => DefFault::NameTaken(name),
@@ -50,7 +57,7 @@ pub(crate) fn name_taken(name: &Name) -> DefFault
 }
 
 pub(crate) fn unknown_name(name: &Name) -> DefFault
-    ensures { FaultIs result (refused (unknown_name name.now)) }
+    ensures { FaultIs {A = Typ} result (refused (unknown_name name.now)) }
 {
     match name.copy() {
         Ok(name) => DefFault::UnknownName(name),
@@ -59,7 +66,8 @@ pub(crate) fn unknown_name(name: &Name) -> DefFault
 }
 
 pub(crate) fn not_closed(name: &Name) -> DefFault
-    ensures { FaultIs result (refused (not_closed name.now)) }
+    ensures constant { FaultIs {A = Typ} result (refused (not_closed name.now)) }
+    ensures new_type { FaultIs {A = Def} result (refused (not_closed name.now)) }
 {
     match name.copy() {
         Ok(name) => DefFault::NotClosed(name),
@@ -68,7 +76,7 @@ pub(crate) fn not_closed(name: &Name) -> DefFault
 }
 
 pub(crate) fn hides_type(name: &Name) -> DefFault
-    ensures { FaultIs result (refused (hidden_type name.now)) }
+    ensures { FaultIs {A = Typ} result (refused (hidden_type name.now)) }
 {
     match name.copy() {
         Ok(name) => DefFault::HiddenType(name),

@@ -1,12 +1,16 @@
 //! Definitions and theorems of higher-order logic: whoever holds a theorem holds something derivable.
 #![tactic(auto)]
 
+mod cut;
+mod define;
 mod definition;
 mod defs;
 mod fault;
 mod kept;
 mod known;
+mod new_type;
 mod over;
+mod parameters;
 mod promises;
 mod rules;
 mod start;

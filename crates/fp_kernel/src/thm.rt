@@ -1,7 +1,9 @@
+//! Theorems.
 ghost use Rattle.std.specs.Prelude.{◌≡◌, [], length, IfOk};
 ghost use Rattle.fp_conclude.specs.Hypotheses.{IsSet};
-ghost use Rattle.fp_kernel.specs.Theorems.{IsTheorem, ArePromises};
+ghost use Rattle.fp_kernel.specs.Theorems.{IsTheorem, ArePromises, plain};
 ghost use Rattle.fp_kernel.specs.Start.{signature_of};
+ghost use Rattle.fp_kernel.specs.Conservative.{IsConservative};
 ghost use Rattle.fp_kernel.specs.Derivability.{Derives, IsFormula, AreFormulas};
 
 use crate::definition::Definitions;
@@ -10,10 +12,10 @@ use fp_term::{Items, Statement, Term, copy_all};
 use std::alloc::{AllocError, Global};
 use std::marker::Model;
 
-/// A theorem: what the hypotheses and the promises give by the definitions. It keeps its list of definitions.
+/// A theorem: what the hypotheses and the promises give by the definitions. It keeps its list of definitions, which is
+/// conservative.
 pub struct Thm {
     defs: Definitions,
-    level: u32,
     promises: Items<(u32, Term)>,
     hyps: Items<Term>,
     concl: Term,
@@ -23,7 +25,6 @@ impl Drop for Thm {
     fn drop(self) {
         let Thm {
             defs,
-            level: _,
             promises,
             hyps,
             concl,
@@ -36,7 +37,6 @@ impl Drop for Thm {
 }
 
 impl Model for Thm {
-    ghost use Rattle.std.specs.Prelude.{◌≡◌, length};
     ghost use Rattle.fp_conclude.specs.Hypotheses.{IsSet};
     ghost use Rattle.fp_kernel.specs.Theorems.{Theorem, ArePromises};
     ghost use Rattle.fp_kernel.specs.Derivability.{Derives};
@@ -48,19 +48,17 @@ impl Model for Thm {
 
     ghost view = { λ t. record { defs = t.defs; promises = t.promises; hyps = t.hyps; concl = t.concl } };
 
-    ghost invariant = { λ t. Derives t.defs t.promises t.hyps t.concl × (t.level ≡ length t.defs) × IsSet t.hyps × ArePromises t.promises };
+    ghost invariant = { λ t. Derives t.defs t.promises t.hyps t.concl × IsSet t.hyps × ArePromises t.promises };
 }
 
 impl Thm {
     /// The theorem of these parts, without hypotheses and promises.
-    pub(crate) fn plain(alloc: Global, defs: Definitions, level: u32, concl: Term) -> Thm
-        requires derived { Derives defs [] [] concl }
-        requires counted { level ≡ length defs }
-        ensures { result ≡ record { defs = defs; promises = []; hyps = []; concl = concl } }
+    pub(crate) fn plain(alloc: Global, defs: Definitions, concl: Term) -> Thm
+        requires { Derives defs [] [] concl }
+        ensures { result ≡ plain defs concl }
     {
         Thm {
             defs,
-            level,
             promises: Items::new(alloc),
             hyps: Items::new(alloc),
             concl,
@@ -70,20 +68,17 @@ impl Thm {
     /// The theorem of these parts.
     pub(crate) fn made(
         defs: Definitions,
-        level: u32,
         promises: Items<(u32, Term)>,
         hyps: Items<Term>,
         concl: Term,
     ) -> Thm
         requires derived { Derives defs promises hyps concl }
-        requires counted { level ≡ length defs }
         requires set { IsSet hyps }
         requires promises_set { ArePromises promises }
         ensures { result ≡ record { defs = defs; promises = promises; hyps = hyps; concl = concl } }
     {
         Thm {
             defs,
-            level,
             promises,
             hyps,
             concl,
@@ -97,7 +92,7 @@ impl Thm {
         let promises = copy_promises(alloc, self.promises.as_slice())?;
         let hyps = copy_all(alloc, self.hyps.as_slice())?;
         let concl = self.concl.copy()?;
-        Ok(Thm::made(self.defs.copy()?, self.level, promises, hyps, concl))
+        Ok(Thm::made(self.defs.copy()?, promises, hyps, concl))
     }
 
     /// What is concluded: a formula, derivable from the hypotheses and the promises.
@@ -142,8 +137,9 @@ impl Thm {
 
     /// The number of definitions over which it stands.
     pub fn level(&self) -> u32
-        ensures { result ≡ length self.now.defs }
+        ensures number { result ≡ length self.now.defs }
+        ensures conservative { IsConservative self.now.defs }
     {
-        self.level
+        self.defs.level()
     }
 }

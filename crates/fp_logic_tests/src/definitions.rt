@@ -1,4 +1,4 @@
-// Definitions and theorems.
+//! Definitions of constants.
 use fp_kernel::{DefFault, Defs, Thm};
 use fp_term::Name;
 use fp_texts::{has_text, name, term};
@@ -44,6 +44,7 @@ fn kind_of(fault: &DefFault) -> &'static str {
         DefFault::NameTaken(_) => "NameTaken",
         DefFault::UnknownName(_) => "UnknownName",
         DefFault::IllTyped(_) => "IllTyped",
+        DefFault::NotInhabitedForm => "NotInhabitedForm",
         DefFault::NotClosed(_) => "NotClosed",
         DefFault::HiddenType(_) => "HiddenType",
         DefFault::NoMemory => "NoMemory",
@@ -55,6 +56,7 @@ fn name_in(fault: &DefFault) -> Option<&Name> {
         DefFault::NameTaken(name) => Some(name),
         DefFault::UnknownName(name) => Some(name),
         DefFault::IllTyped(_) => None,
+        DefFault::NotInhabitedForm => None,
         DefFault::NotClosed(name) => Some(name),
         DefFault::HiddenType(name) => Some(name),
         DefFault::NoMemory => None,
@@ -179,5 +181,23 @@ fn a_long_list(rt: HostRuntime) -> Result<(), Fail> {
         assert!(rt; is_numbered(rt.alloc(), &mut defs, number) == Ok(true));
     }
     assert!(rt; defs.level() == 3000);
+    Ok(())
+}
+
+// The first definition stays, and the name of the second is free again.
+fn is_shortened(alloc: Global, defs: &mut Defs) -> bool {
+    if defs.level() < 1 {
+        return false;
+    }
+    defs.back_to(1);
+    defs.level() == 1 && !is_defined(alloc, defs, "c") && is_defined(alloc, defs, "d")
+}
+
+#[test]
+fn a_list_is_shortened(rt: HostRuntime) -> Result<(), Fail> {
+    let mut defs = Defs::new(rt.alloc())?;
+    assert!(rt; is_defined(rt.alloc(), &mut defs, "c"));
+    assert!(rt; is_defined(rt.alloc(), &mut defs, "d"));
+    assert!(rt; is_shortened(rt.alloc(), &mut defs));
     Ok(())
 }

@@ -1,12 +1,14 @@
 -- The text so far, and what the definitions that are left give.
 use Rattle.std.proofs.Common.{◌≡◌, ◌∙◌, ◌+◌, ℕ, List, [], ◌∷◌, ◌++◌, Bool, true, false, zero, suc, ◌<◌, ◌≤◌, refl, length, get_or, drop, sym, ap, codes, arith, add-one, append_assoc, append-nil}
 use Rattle.std.proofs.Math.ListN.{drop_of_length-le}
+use Rattle.fp_term.specs.Types.{Typ}
 use Rattle.fp_kernel.specs.Definitions.{Def}
 use Rattle.fp_kernel.specs.Conservative.{IsConservative}
 use Rattle.fp_kernel.specs.Theorems.{Theorem, IsTheorem}
-use Rattle.fp_kernel.specs.Defining.{Refusal, Outcome, refused, defining, Defines, FaultIs, name_taken, unknown_name, ill_typed_at, not_closed, hidden_type}
+use Rattle.fp_conclude.specs.Outcomes.{Refusal, Outcome, refused, name_taken, unknown_name, ill_typed_at, not_inhabited_form, not_closed, hidden_type}
+use Rattle.fp_kernel.specs.Defining.{defining, Defines, FaultIs}
 use Rattle.fp_kernel.specs.declared.fault.DefFault.{DefFault}
-use Rattle.fp_kernel.specs.declared.fault.DefFault.TheVariants.{NameTaken, UnknownName, IllTyped, NotClosed, HiddenType, NoMemory}
+use Rattle.fp_kernel.specs.declared.fault.DefFault.TheVariants.{NameTaken, UnknownName, IllTyped, NotInhabitedForm, NotClosed, HiddenType, NoMemory}
 use Rattle.fp_full.specs.declared.parsed.Definition.{Definition}
 use Rattle.fp_full.specs.Grammar.{Entry}
 use Rattle.fp_full.specs.Views.{entry_of, entries_of}
@@ -26,10 +28,11 @@ abbrev line_of : Bool → Entry → Theorem → List ℕ
 line_of full e th = codes "definition " ++ e.name ++ codes "_def: " ++ statement_text full th.hyps th.concl ++ 10 ∷ []
 
 -- a fault, explained, is a refusal of the definition
-explained : (fault : DefFault) (o : Outcome) (e : Entry) (place : ℕ) (printed : Fault) → FaultIs fault o → Explains fault e.at e.brace place printed → (r : Refusal) × (o ≡ refused r) × (place ≡ place_of r e) × (printed ≡ fault_of r)
+explained : (fault : DefFault) (o : Outcome Typ) (e : Entry) (place : ℕ) (printed : Fault) → FaultIs fault o → Explains fault e.at e.brace place printed → (r : Refusal) × (o ≡ refused r) × (place ≡ place_of r e) × (printed ≡ fault_of r)
 explained (NameTaken name) o e place printed f x = (name_taken name, f, x.0, x.1)
 explained (UnknownName name) o e place printed f x = (unknown_name name, f, x.0, x.1)
 explained (IllTyped steps) o e place printed f x = (ill_typed_at steps, f, x.0, x.1)
+explained NotInhabitedForm o e place printed f x = (not_inhabited_form, f, x.0, x.1)
 explained (NotClosed name) o e place printed f x = (not_closed name, f, x.0, x.1)
 explained (HiddenType name) o e place printed f x = (hidden_type name, f, x.0, x.1)
 explained NoMemory o e place printed f x = absurd x
@@ -38,7 +41,7 @@ explained NoMemory o e place printed f x = absurd x
 pub accepted_step : (full : Bool) (file : List ℕ) (defs new : List Def) (e : Entry) (th : Theorem) (text longer : List ℕ) → Defines defs new e.name e.term th → IsConservative new → IsTheorem th →
     longer ≡ text ++ line_of full e th → Steps full file defs new e text longer false
 accepted_step full file defs new e th text longer d conservative derived same =
-    goes d.type d.outcome d.list (rw d.list at conservative) (rw d.theorem at derived) (rw d.theorem at same)
+    goes d.type d.outcome d.list (rw d.list at conservative) (rw (d.theorem, d.list) at derived) (rw d.theorem at same)
 
 pub refused_step : (full : Bool) (file : List ℕ) (defs new : List Def) (e : Entry) (text longer : List ℕ) (fault : DefFault) (place : ℕ) (printed : Fault) → FaultIs fault (defining defs e.name e.term) →
     Explains fault e.at e.brace place printed → longer ≡ text ++ refusal_line file place printed → Steps full file defs new e text longer true

@@ -11,8 +11,9 @@ use Rattle.fp_kernel.specs.Definitions.{Def, new_constant}
 use Rattle.fp_conclude.specs.Logic.{equal}
 use Rattle.fp_kernel.specs.Derivability.{Derives}
 use Rattle.fp_kernel.specs.Conservative.{IsConservative}
-use Rattle.fp_kernel.specs.Defining.{Refusal, defining, made, refused}
-use Rattle.fp_kernel.specs.Defining as kernel
+use Rattle.fp_kernel.specs.Defining.{defining}
+use Rattle.fp_conclude.specs.Outcomes.{Refusal, gives, refused}
+use Rattle.fp_conclude.specs.Outcomes as kernel
 use Rattle.fp_full.specs.Grammar.{Entry}
 use Rattle.fp_full.specs.Texts.{of_file, entries, IsText, KeepsLimits, FirstBad, FirstTooDeep, FirstTooLong}
 use Rattle.fp_full.specs.Printing.{printed_statement}
@@ -28,6 +29,7 @@ pub data Fault : Type 0 where
   name_taken : List ℕ → Fault
   unknown_name : List ℕ → Fault
   clash : Fault
+  not_inhabited_form : Fault
   not_closed : List ℕ → Fault
   hidden_type : List ℕ → Fault
 
@@ -40,6 +42,7 @@ fault_text name_too_long = codes "NameTooLong"
 fault_text (name_taken name) = codes "NameTaken " ++ name
 fault_text (unknown_name name) = codes "UnknownName " ++ name
 fault_text clash = codes "Clash"
+fault_text not_inhabited_form = codes "NotInhabitedForm"
 fault_text (not_closed name) = codes "NotClosed " ++ name
 fault_text (hidden_type name) = codes "HiddenType '" ++ name
 
@@ -70,15 +73,16 @@ abbrev pub fault_of : Refusal → Fault
 fault_of (kernel.name_taken name) = name_taken name
 fault_of (kernel.unknown_name name) = unknown_name name
 fault_of (kernel.ill_typed_at place) = clash
+fault_of kernel.not_inhabited_form = not_inhabited_form
 fault_of (kernel.not_closed name) = not_closed name
 fault_of (kernel.hidden_type name) = hidden_type name
+-- no definition is refused for the causes of rules
+fault_of _ = clash
 
 abbrev pub place_of : Refusal → Entry → ℕ
-place_of (kernel.name_taken name) e = e.at
 place_of (kernel.unknown_name name) e = e.brace
 place_of (kernel.ill_typed_at place) e = e.brace
-place_of (kernel.not_closed name) e = e.at
-place_of (kernel.hidden_type name) e = e.at
+place_of _ e = e.at
 
 -- the text of a statement
 abbrev pub statement_text : Bool → List Tm → Tm → List ℕ
@@ -100,7 +104,7 @@ with_entry e s defs = new_constant e.name s e.term ∷ defs
 pub data Carries (full : Bool) (file : List ℕ) : List Def → List Entry → List ℕ → Bool → Type 0 where
   done : {defs : List Def} → Carries full file defs [] [] false
   accepted : {defs : List Def} {es : List Entry} {text : List ℕ} {ends : Bool} (e : Entry) (s : Typ) →
-      defining defs e.name e.term ≡ made s → IsConservative (with_entry e s defs) → Derives (with_entry e s defs) [] [] (statement_of e s) →
+      defining defs e.name e.term ≡ gives s → IsConservative (with_entry e s defs) → Derives (with_entry e s defs) [] [] (statement_of e s) →
       Carries full file (with_entry e s defs) es text ends → Carries full file defs (e ∷ es) (definition_line full e s ++ text) ends
   stopped : {defs : List Def} {es : List Entry} (e : Entry) (r : Refusal) →
       defining defs e.name e.term ≡ refused r → Carries full file defs (e ∷ es) (refusal_line file (place_of r e) (fault_of r)) true

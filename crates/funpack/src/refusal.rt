@@ -19,6 +19,7 @@ pub enum Reason {
     NameTaken(Name),
     UnknownName(Name),
     Clash,
+    NotInhabitedForm,
     NotClosed(Name),
     HiddenType(Name),
 }
@@ -47,6 +48,10 @@ pub fn of_definition(fault: DefFault, at: u32, brace: u32) -> Result<Refusal, Al
             at: brace,
             reason: Reason::Clash,
         }),
+        DefFault::NotInhabitedForm => Ok(Refusal {
+            at,
+            reason: Reason::NotInhabitedForm,
+        }),
         DefFault::NotClosed(name) => Ok(Refusal {
             at,
             reason: Reason::NotClosed(name),
@@ -71,6 +76,7 @@ fn parts_of(reason: &Reason) -> (&'static str, Option<&Name>)
         Reason::NameTaken(name) => ("NameTaken ", Some(name)),
         Reason::UnknownName(name) => ("UnknownName ", Some(name)),
         Reason::Clash => ("Clash", None),
+        Reason::NotInhabitedForm => ("NotInhabitedForm", None),
         Reason::NotClosed(name) => ("NotClosed ", Some(name)),
         Reason::HiddenType(name) => ("HiddenType '", Some(name)),
     }
