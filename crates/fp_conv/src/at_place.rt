@@ -1,3 +1,4 @@
+//! Rewriting at a place.
 ghost use Rattle.std.specs.Prelude.{◌≡◌, ◌∷◌, ◌||◌, ℕ, false, Some, IfOk};
 ghost use Rattle.std.specs.Option.{option_copied};
 ghost use Rattle.fp_term.specs.Types.{Typ};
@@ -14,7 +15,7 @@ ghost use Rattle.fp_conv.specs.Equations.{IsTyped, Equates};
 ghost use Rattle.fp_conv.specs.Rewriting.{put_by, rewrite_of};
 
 use crate::fresh::opening;
-use crate::steps::{abstracted, chained, reflexive, with_argument, with_function};
+use crate::steps::{lam_known, trans_known, refl_known, ap_arg_known, ap_known};
 use fp_conclude::{Equation, sides, typed_over};
 use fp_kernel::{Defs, RuleFault, Thm};
 use fp_term::{Name, Node, Place, Term, Ty, same};
@@ -42,17 +43,19 @@ fn subterm_at<'a>(steps: &[u8], term: &'a Term) -> Option<&'a Term>
 }
 
 // The equation itself.
+#[inline(never)]
 fn at_root(alloc: Global, defs: &Defs, eq: &Thm, sides: &Equation<'_>) -> Result<Thm, AllocError>
     requires within { Within eq.now.defs defs.now }
     requires equation { eq.now.concl ≡ equal sides.now.ty.now sides.now.left.now sides.now.right.now }
     ensures { IfOk result (Equates defs.now eq.now.promises eq.now.hyps sides.now.left.now sides.now.right.now) }
 {
     eq.concl();
-    let same = reflexive(alloc, defs, sides.right)?;
-    chained(alloc, defs, eq, &same)
+    let same = refl_known(alloc, defs, sides.right)?;
+    trans_known(alloc, defs, eq, &same)
 }
 
 // What was rewritten in the opened body of an abstraction is rewritten in the abstraction.
+#[inline(never)]
 fn closed_again(
     alloc: Global,
     defs: &Defs,
@@ -71,7 +74,7 @@ fn closed_again(
     requires inner { Equates defs.now eq.now.promises eq.now.hyps opening.1 (put_at rest.now sides.now.right.now opening.1) inner }
     ensures { IfOk result (Equates defs.now eq.now.promises eq.now.hyps (abs ty.now body.now) (abs ty.now (put_at rest.now sides.now.right.now body.now))) }
 {
-    abstracted(alloc, defs, &opening.0, ty, &inner)
+    lam_known(alloc, defs, &opening.0, ty, &inner)
 }
 
 // The abstraction is equal to the one with the equation's right side at the place in its body.
@@ -121,14 +124,34 @@ fn rewritten(
     match term.node() {
         Node::App { fun, arg } => if *step == 0 {
             let inner = rewritten(alloc, defs, rest, eq, sides, fun, depth)?;
-            with_argument(alloc, defs, fun, &inner, arg)
+            ap_arg_known(alloc, defs, fun, &inner, arg)
         } else {
             let inner = rewritten(alloc, defs, rest, eq, sides, arg, depth)?;
-            with_function(alloc, defs, fun, arg, &inner)
+            ap_known(alloc, defs, fun, arg, &inner)
         },
         Node::Abs { ty, body } => in_abstraction(alloc, defs, rest, eq, sides, ty, body, depth),
         _ => unreachable!(),
     }
+}
+
+/// The term is equal to the one with the equation's right side in place of the subterm at the place, which is its left
+/// side; with the equation's hypotheses and promises.
+pub fn rewrite_at_known(
+    alloc: Global,
+    defs: &Defs,
+    place: &Place,
+    eq: &Thm,
+    sides: &Equation<'_>,
+    term: &Term,
+) -> Result<Thm, AllocError>
+    requires within { Within eq.now.defs defs.now }
+    requires equation { eq.now.concl ≡ equal sides.now.ty.now sides.now.left.now sides.now.right.now }
+    requires typed { IsTyped (signature_of defs.now) term.now }
+    requires there { subterm_at place.now term.now ≡ Some sides.now.left.now }
+    ensures { IfOk result (Equates defs.now eq.now.promises eq.now.hyps term.now (put_at place.now sides.now.right.now term.now)) }
+{
+    let steps = place.steps(alloc)?;
+    rewritten(alloc, defs, steps.as_slice(), eq, sides, term, 0)
 }
 
 fn differ(left: &Term, right: &Term) -> RuleFault
@@ -164,7 +187,7 @@ fn rewritten_at(
     if !same(part, sides.left) {
         return Err(differ(part, sides.left));
     }
-    Ok(rewritten(alloc, defs, steps.as_slice(), eq, sides, term, 0)?)
+    Ok(rewrite_at_known(alloc, defs, place, eq, sides, term)?)
 }
 
 /// The term is equal to the one with the equation's right side in place of the subterm at the place, which has to be

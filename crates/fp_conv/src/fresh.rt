@@ -1,23 +1,47 @@
+//! Names of variables that are free nowhere in given terms.
 ghost use Rattle.std.specs.Prelude.{◌≡◌, ◌∷◌, ◌||◌, false, IfOk};
 ghost use Rattle.fp_term.specs.Terms.{free, opened};
 ghost use Rattle.fp_term.specs.Variables.{is_among, free_names};
 ghost use Rattle.fp_conclude.specs.Hypotheses.{occurs, occurs_in_any};
 ghost use Rattle.fp_conv.specs.Outermost.{is_used};
+ghost use Rattle.fp_conv.specs.Passes.{numbered, IsFirstUnused};
 
 use fp_conclude::{Equation, occurs, occurs_in_any};
 use fp_term::{Name, Node, Term, Ty, open_with};
 use std::alloc::{AllocError, Global};
 
-// `_` and the digits of the number, the last one first.
-fn numbered(alloc: Global, number: u32) -> Result<Name, AllocError> {
-    let mut bytes = Vec::new(alloc);
-    bytes.push(b'_')?;
-    let mut rest = number;
-    for _ in 0..10 {
-        bytes.push(b'0' + (rest % 10) as u8)?;
-        rest /= 10;
+// The bytes of `_` and the number's digits.
+fn numbered_bytes(alloc: Global, number: u32) -> Result<Vec<u8>, AllocError>
+    ensures { IfOk result (λ bytes. bytes.items ≡ numbered number) }
+{
+    let mut bytes = Vec::from_slice(alloc, b"_")?;
+    let digits = number.to_string(alloc)?;
+    bytes.extend_from_slice(digits.as_bytes())?;
+    Ok(bytes)
+}
+
+// `_` and the number's digits. Different numbers give different names.
+fn numbered(alloc: Global, number: u32) -> Result<Name, AllocError>
+    ensures { IfOk result (λ name. name ≡ numbered number) }
+{
+    let bytes = numbered_bytes(alloc, number)?;
+    match Name::new(alloc, bytes.as_slice())? {
+        Some(name) => Ok(name),
+        None => Err(AllocError),
     }
-    Name::new(alloc, bytes.as_slice())?.ok_or(AllocError)
+}
+
+// The name of the first number, from that one on, whose variable of the type isn't free in the body.
+fn first_unused(alloc: Global, from: u32, ty: &Ty, body: &Term) -> Result<Name, AllocError>
+    ensures { IfOk result (λ name. IsFirstUnused from ty.now body.now name) }
+{
+    for number in from..u32::MAX {
+        let name = numbered(alloc, number)?;
+        if !occurs(&name, ty, body) {
+            return Ok(name);
+        }
+    }
+    Err(AllocError)
 }
 
 // Is the variable free in any of the terms?
@@ -55,7 +79,24 @@ pub(crate) fn opened(alloc: Global, body: &Term, name: &Name, ty: &Ty) -> Result
     open_with(alloc, body, &variable)
 }
 
+/// That first unused name, and the body opened by its variable.
+#[inline(never)]
+pub(crate) fn first_opening(
+    alloc: Global,
+    from: u32,
+    ty: &Ty,
+    body: &Term,
+) -> Result<(Name, Term), AllocError>
+    ensures first { IfOk result (λ p. IsFirstUnused from ty.now body.now p.0) }
+    ensures opened { IfOk result (λ p. p.1 ≡ opened 0 (free p.0 ty.now) body.now) }
+{
+    let name = first_unused(alloc, from, ty, body)?;
+    let opened = opened(alloc, body, &name, ty)?;
+    Ok((name, opened))
+}
+
 /// A name whose variable of the type is free in none of the terms, and the body opened by its variable.
+#[inline(never)]
 pub(crate) fn opening(
     alloc: Global,
     from: u32,
@@ -127,6 +168,7 @@ pub(crate) fn unused(
 }
 
 /// Such a name, and the body opened by its variable of the type.
+#[inline(never)]
 pub(crate) fn unused_opening(
     alloc: Global,
     from: u32,

@@ -8,7 +8,7 @@ ghost use Rattle.fp_kernel.specs.Start.{signature_of};
 ghost use Rattle.fp_conv.specs.Equations.{IsTyped, Equates};
 ghost use Rattle.fp_conv.specs.Outermost.{Instance, IsAllowed, Becomes, keeps_all};
 
-use crate::steps::{replaced, retyped};
+use crate::steps::{inst_known, inst_ty_known};
 use fp_conclude::Equation;
 use fp_kernel::{Defs, Thm};
 use fp_match::{Inst, match_term};
@@ -73,11 +73,12 @@ fn instantiated(
 {
     eq.concl();
     eq.hyps();
-    let typed = retyped(alloc, defs, eq, found.types.as_slice())?;
-    replaced(alloc, defs, &typed, found.terms.as_slice())
+    let typed = inst_ty_known(alloc, defs, eq, found.types.as_slice())?;
+    inst_known(alloc, defs, &typed, found.terms.as_slice())
 }
 
 /// The equation's instance that has the term on the left, where there is one that leaves the hypotheses as they are.
+#[inline(never)]
 pub(crate) fn at_instance(
     alloc: Global,
     defs: &Defs,

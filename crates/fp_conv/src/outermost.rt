@@ -1,3 +1,4 @@
+//! Rewriting of outermost instances.
 ghost use Rattle.std.specs.Prelude.{◌≡◌, false, ◌∷◌, IfOk, IfErr};
 ghost use Rattle.fp_term.specs.Terms.{free, app, abs, opened};
 ghost use Rattle.fp_conclude.specs.Logic.{truth_type, equal};
@@ -14,7 +15,7 @@ ghost use Rattle.fp_conv.specs.Outermost.{Instance, Rewritten, Determined, Stays
 use crate::fresh::{unused, unused_opening};
 use crate::instances::at_instance;
 use crate::steps::{
-    abstracted, combined, equated, reflexive, replaced, transferred, with_argument, with_function,
+    lam_known, mk_comb_known, antisym_known, refl_known, inst_known, eq_mp_known, ap_arg_known, ap_known,
 };
 use fp_conclude::{Equation, sides, truth_type};
 use fp_kernel::{Defs, RuleFault, Thm};
@@ -39,8 +40,8 @@ fn function_applied(
     ensures { IfOk result (Becomes defs.now eq.now sides.now (app fun.now arg.now)) }
 {
     match arguments {
-        Some(made) => combined(alloc, defs, functions, made),
-        None => with_argument(alloc, defs, fun, functions, arg),
+        Some(made) => mk_comb_known(alloc, defs, functions, made),
+        None => ap_arg_known(alloc, defs, fun, functions, arg),
     }
 }
 
@@ -60,10 +61,11 @@ fn argument_applied(
     requires arguments { Becomes defs.now eq.now sides.now arg.now arguments.now }
     ensures { IfOk result (Becomes defs.now eq.now sides.now (app fun.now arg.now)) }
 {
-    with_function(alloc, defs, fun, arg, arguments)
+    ap_known(alloc, defs, fun, arg, arguments)
 }
 
 // What an application becomes, from what its parts become.
+#[inline(never)]
 fn applied(
     alloc: Global,
     defs: &Defs,
@@ -92,6 +94,7 @@ fn applied(
 }
 
 // What an abstraction becomes, from what its opened body becomes.
+#[inline(never)]
 fn closed_again(
     alloc: Global,
     defs: &Defs,
@@ -110,7 +113,7 @@ fn closed_again(
     ensures { IfOk result (StaysOrBecomes defs.now eq.now sides.now (abs ty.now body.now)) }
 {
     match inner {
-        Some(made) => Ok(Some(abstracted(alloc, defs, &opening.0, ty, made)?)),
+        Some(made) => Ok(Some(lam_known(alloc, defs, &opening.0, ty, made)?)),
         None => Ok(None),
     }
 }
@@ -221,9 +224,9 @@ fn held(
 {
     eq.hyps();
     eq.promises();
-    let own = reflexive(alloc, defs, variable)?;
-    let alike = equated(alloc, defs, eq, &own)?;
-    transferred(alloc, defs, &alike, eq)
+    let own = refl_known(alloc, defs, variable)?;
+    let alike = antisym_known(alloc, defs, eq, &own)?;
+    eq_mp_known(alloc, defs, &alike, eq)
 }
 
 // The variable of that name and of type `bool`.
@@ -253,7 +256,7 @@ fn with_formula(
     ensures { IfOk result (λ i. from_one defs.now th.now (all_replaced (for_variable name.now formula.now) th.now.hyps) (inst_of (signature_of defs.now) (for_variable name.now formula.now) th.now.concl) ≡ gives i) }
 {
     let pairs = [pair(alloc, name, formula)?];
-    replaced(alloc, defs, th, &pairs)
+    inst_known(alloc, defs, th, &pairs)
 }
 
 // `p = p` from the hypotheses and promises of the theorem, in which the variable isn't free.
@@ -288,7 +291,7 @@ fn unchanged(
     ensures { IfOk result (Equates defs.now eq.now.promises eq.now.hyps formula.now formula.now) }
 {
     if eq.hyps().is_empty() && eq.promises().is_empty() {
-        return reflexive(alloc, defs, formula);
+        return refl_known(alloc, defs, formula);
     }
     let name = unused(alloc, 0, formula, sides, eq.hyps())?;
     carried(alloc, defs, eq, &name, formula)
@@ -330,5 +333,5 @@ pub fn rewrite(alloc: Global, defs: &Defs, a: &Thm, b: &Thm) -> Result<Thm, Rule
         return Err(RuleFault::NotEquation);
     };
     let equal = rewriting(alloc, defs, a, &sides, b.concl())?;
-    Ok(transferred(alloc, defs, &equal, b)?)
+    Ok(eq_mp_known(alloc, defs, &equal, b)?)
 }

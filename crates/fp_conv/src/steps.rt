@@ -1,3 +1,4 @@
+//! The rules on premises of a known form: but for want of memory they give what the form says.
 ghost use Rattle.std.specs.Prelude.{◌≡◌, [], true, IfOk, Ok};
 ghost use Rattle.std.specs.Result.{ForErr};
 ghost use Rattle.fp_term.specs.Terms.{app};
@@ -11,6 +12,7 @@ ghost use Rattle.fp_kernel.specs.Start.{signature_of};
 ghost use Rattle.fp_kernel.specs.Theorems.{promise_union, from_one, from_both};
 ghost use Rattle.fp_conv.specs.Beta.{is_redex};
 ghost use Rattle.fp_conv.specs.Normal.{Reduction};
+ghost use Rattle.fp_conv.specs.Passes.{contracted};
 ghost use Rattle.fp_conv.specs.Equations.{IsTyped, IsGiven, Equates, right_of};
 
 use fp_kernel::{Defs, RuleFault, Thm};
@@ -29,7 +31,8 @@ fn given(answer: Result<Thm, RuleFault>) -> Result<Thm, AllocError>
 }
 
 /// `t = t`.
-pub(crate) fn reflexive(alloc: Global, defs: &Defs, term: &Term) -> Result<Thm, AllocError>
+#[inline(never)]
+pub(crate) fn refl_known(alloc: Global, defs: &Defs, term: &Term) -> Result<Thm, AllocError>
     requires { IsTyped (signature_of defs.now) term.now }
     ensures { IfOk result (Equates defs.now [] [] term.now term.now) }
 {
@@ -37,7 +40,8 @@ pub(crate) fn reflexive(alloc: Global, defs: &Defs, term: &Term) -> Result<Thm, 
 }
 
 /// What `trans` gives, where it gives anything.
-pub(crate) fn chained(
+#[inline(never)]
+pub(crate) fn trans_known(
     alloc: Global,
     defs: &Defs,
     first: &Thm,
@@ -52,7 +56,8 @@ pub(crate) fn chained(
 }
 
 /// What `mk_comb` gives, where it gives anything.
-pub(crate) fn combined(
+#[inline(never)]
+pub(crate) fn mk_comb_known(
     alloc: Global,
     defs: &Defs,
     first: &Thm,
@@ -67,7 +72,8 @@ pub(crate) fn combined(
 }
 
 /// What `lam` gives, where it gives anything.
-pub(crate) fn abstracted(
+#[inline(never)]
+pub(crate) fn lam_known(
     alloc: Global,
     defs: &Defs,
     name: &Name,
@@ -82,16 +88,19 @@ pub(crate) fn abstracted(
 }
 
 /// A redex and its contract.
-pub(crate) fn contracted(alloc: Global, defs: &Defs, term: &Term) -> Result<Thm, AllocError>
+#[inline(never)]
+pub(crate) fn beta_known(alloc: Global, defs: &Defs, term: &Term) -> Result<Thm, AllocError>
     requires typed { IsTyped (signature_of defs.now) term.now }
     requires redex { is_redex term.now ≡ true }
-    ensures { IfOk result (Reduction defs.now term.now) }
+    ensures reduction { IfOk result (Reduction defs.now term.now) }
+    ensures contracted { IfOk result (λ th. right_of th.concl ≡ contracted term.now) }
 {
     given(defs.beta(alloc, term))
 }
 
 /// What `eq_mp` gives, where it gives anything.
-pub(crate) fn transferred(
+#[inline(never)]
+pub(crate) fn eq_mp_known(
     alloc: Global,
     defs: &Defs,
     first: &Thm,
@@ -106,7 +115,8 @@ pub(crate) fn transferred(
 }
 
 /// What `antisym` gives.
-pub(crate) fn equated(
+#[inline(never)]
+pub(crate) fn antisym_known(
     alloc: Global,
     defs: &Defs,
     first: &Thm,
@@ -125,7 +135,8 @@ pub(crate) fn equated(
 }
 
 /// What `inst` gives, where it gives anything.
-pub(crate) fn replaced(
+#[inline(never)]
+pub(crate) fn inst_known(
     alloc: Global,
     defs: &Defs,
     th: &Thm,
@@ -139,7 +150,8 @@ pub(crate) fn replaced(
 }
 
 /// What `inst_ty` gives, where it gives anything.
-pub(crate) fn retyped(
+#[inline(never)]
+pub(crate) fn inst_ty_known(
     alloc: Global,
     defs: &Defs,
     th: &Thm,
@@ -153,7 +165,8 @@ pub(crate) fn retyped(
 }
 
 /// `f x = g x` from `f = g`.
-pub(crate) fn with_argument(
+#[inline(never)]
+pub(crate) fn ap_arg_known(
     alloc: Global,
     defs: &Defs,
     fun: &Term,
@@ -164,12 +177,13 @@ pub(crate) fn with_argument(
     requires typed { IsTyped (signature_of defs.now) (app fun.now arg.now) }
     ensures { IfOk result (Equates defs.now functions.now.promises functions.now.hyps (app fun.now arg.now) (app (right_of functions.now.concl) arg.now)) }
 {
-    let same = reflexive(alloc, defs, arg)?;
-    combined(alloc, defs, functions, &same)
+    let same = refl_known(alloc, defs, arg)?;
+    mk_comb_known(alloc, defs, functions, &same)
 }
 
 /// `f x = f y` from `x = y`.
-pub(crate) fn with_function(
+#[inline(never)]
+pub(crate) fn ap_known(
     alloc: Global,
     defs: &Defs,
     fun: &Term,
@@ -182,6 +196,6 @@ pub(crate) fn with_function(
 {
     arguments.hyps();
     arguments.promises();
-    let same = reflexive(alloc, defs, fun)?;
-    combined(alloc, defs, &same, arguments)
+    let same = refl_known(alloc, defs, fun)?;
+    mk_comb_known(alloc, defs, &same, arguments)
 }

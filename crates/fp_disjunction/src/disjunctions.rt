@@ -11,7 +11,6 @@ ghost use Rattle.fp_disjunction.specs.Forms.{disjunction};
 ghost use Rattle.fp_disjunction.specs.Derived.{either_way, cases_from};
 ghost use Rattle.fp_forms.specs.Schemas.{p_variable, q_variable};
 ghost use Rattle.fp_disjunction.specs.Schemas.{each_way, all_ways};
-ghost use Rattle.fp_forms.specs.Shapes.{left, right};
 ghost use Rattle.fp_logic.specs.Steps.{plain, by_one, by_both, without_one};
 ghost use Rattle.fp_disjunction.specs.Steps.{IsDisjunction};
 
@@ -22,9 +21,9 @@ use fp_forms::shapes::{self, argument_in};
 use fp_kernel::{Defs, Thm};
 use fp_logic::choosing::established;
 use fp_logic::holding::convert;
-use fp_logic::implications::{discharged, modus};
+use fp_logic::implications::{disch_known, mp_known};
 use fp_logic::instances::instance;
-use fp_logic::steps::{chain, definition, reduced};
+use fp_logic::steps::{trans_known, connective_known, beta_known};
 use fp_logic::unfolding::unfold_twice;
 use fp_term::{Term, same};
 use std::alloc::{AllocError, Global};
@@ -33,7 +32,7 @@ use std::alloc::{AllocError, Global};
 fn quantified_schema(alloc: Global, defs: &Defs) -> Result<Thm, AllocError>
     ensures { IfOk result (λ th. th ≡ plain defs.now (disjunction_is_for_all p_variable q_variable)) }
 {
-    let meaning = definition(alloc, defs, 6)?;
+    let meaning = connective_known(alloc, defs, 6)?;
     unfold_twice(alloc, defs, &meaning)
 }
 
@@ -44,7 +43,7 @@ fn disjunction_schema(alloc: Global, defs: &Defs) -> Result<Thm, AllocError>
     let quantified = quantified_schema(alloc, defs)?;
     let predicate = argument_in(shapes::right(quantified.concl()));
     let universal = universal(alloc, defs, predicate)?;
-    chain(alloc, defs, &quantified, &universal)
+    trans_known(alloc, defs, &quantified, &universal)
 }
 
 /// What a disjunction says.
@@ -80,8 +79,8 @@ fn ways_at(
     always_at(alloc, defs, &always, term)
 }
 
-// `(l --> t) --> (m --> t) --> t` from `l \/ m`.
-fn ways(
+/// `(l --> t) --> (m --> t) --> t` from `l \/ m`.
+pub fn ways(
     alloc: Global,
     defs: &Defs,
     a: &Thm,
@@ -94,18 +93,8 @@ fn ways(
     ensures { IfOk result (λ th. th ≡ by_one defs.now a.now (each_way left.now right.now term.now)) }
 {
     let against = ways_at(alloc, defs, a, left, right, term)?;
-    let equation = reduced(alloc, defs, shapes::left(against.concl()))?;
+    let equation = beta_known(alloc, defs, shapes::left(against.concl()))?;
     established(alloc, defs, &against, &equation)
-}
-
-/// `r` from `p --> r` and `p`, by the terms of the theorems.
-pub fn passed_on(alloc: Global, defs: &Defs, a: &Thm, b: &Thm) -> Result<Thm, AllocError>
-    requires first { a.now.defs ≡ defs.now }
-    requires second { b.now.defs ≡ defs.now }
-    requires shape { a.now.concl ≡ implication b.now.concl (right a.now.concl) }
-    ensures { IfOk result (λ th. th ≡ by_both defs.now a.now b.now (right a.now.concl)) }
-{
-    modus(alloc, defs, a, b, b.concl(), shapes::right(a.concl()))
 }
 
 // `(q --> r) --> r` from `p \/ q` and `r`, without `p` among the hypotheses of the second.
@@ -122,12 +111,13 @@ fn first_passed(
     ensures { IfOk result (λ th. th ≡ by_both defs.now a.now (without_one defs.now left.now b.now b.now.concl) (implication (implication right.now b.now.concl) b.now.concl)) }
 {
     let ways = ways(alloc, defs, a, left, right, b.concl())?;
-    let first = discharged(alloc, defs, left, b)?;
-    passed_on(alloc, defs, &ways, &first)
+    let first = disch_known(alloc, defs, left, b)?;
+    mp_known(alloc, defs, &ways, &first)
 }
 
-// `r` from `p \/ q`, `r` without `p` and `r` without `q`.
-fn either(
+/// `r` from `l \/ m`, from `r` and from `r`, without `l` among the hypotheses of the second theorem and without `m`
+/// among those of the third.
+pub fn cases_known(
     alloc: Global,
     defs: &Defs,
     a: &Thm,
@@ -143,8 +133,8 @@ fn either(
     ensures { IfOk result (λ th. th ≡ either_way defs.now a.now b.now c.now (left.now, right.now)) }
 {
     let once = first_passed(alloc, defs, a, b, left, right)?;
-    let second = discharged(alloc, defs, right, c)?;
-    passed_on(alloc, defs, &once, &second)
+    let second = disch_known(alloc, defs, right, c)?;
+    mp_known(alloc, defs, &once, &second)
 }
 
 /// `r` from `p \/ q`, from `r` and from `r`, without `p` among the hypotheses of the second theorem and without `q`
@@ -162,5 +152,5 @@ pub fn cases(alloc: Global, defs: &Defs, a: &Thm, b: &Thm, c: &Thm) -> Result<Th
     if !same(b.concl(), c.concl()) {
         return Err(differ(b.concl(), c.concl()));
     }
-    Ok(either(alloc, defs, a, b, c, left, right)?)
+    Ok(cases_known(alloc, defs, a, b, c, left, right)?)
 }

@@ -20,7 +20,7 @@ use fp_kernel::{Defs, Thm};
 use fp_logic::choosing::established;
 use fp_logic::equations::unfold;
 use fp_logic::holding::convert;
-use fp_logic::steps::{chain, definition, given, own, reduced};
+use fp_logic::steps::{trans_known, connective_known, given, refl_known, beta_known};
 use fp_term::{Name, Term, Ty, same};
 use std::alloc::{AllocError, Global};
 
@@ -36,7 +36,7 @@ fn truth_for_alpha(alloc: Global) -> Result<(Name, Ty), AllocError>
 fn universal_schema(alloc: Global, defs: &Defs) -> Result<Thm, AllocError>
     ensures { IfOk result (λ th. th ≡ plain defs.now universal_is) }
 {
-    let meaning = definition(alloc, defs, 4)?;
+    let meaning = connective_known(alloc, defs, 4)?;
     let pairs = [truth_for_alpha(alloc)?];
     given(defs.inst_ty(alloc, &meaning, &pairs))
 }
@@ -47,7 +47,7 @@ pub fn universal(alloc: Global, defs: &Defs, predicate: &Term) -> Result<Thm, Al
     ensures { IfOk result (λ th. th ≡ plain defs.now (equal truth_type (app (quantifier (codes "all") truth_type) predicate.now) (always_true predicate.now))) }
 {
     let schema = universal_schema(alloc, defs)?;
-    let own = own(alloc, defs, predicate)?;
+    let own = refl_known(alloc, defs, predicate)?;
     unfold(alloc, defs, &schema, &own)
 }
 
@@ -63,9 +63,9 @@ fn universal_identity(alloc: Global, defs: &Defs) -> Result<Thm, AllocError>
 fn false_meaning(alloc: Global, defs: &Defs) -> Result<Thm, AllocError>
     ensures { IfOk result (λ th. th ≡ plain defs.now (equal truth_type false_constant (always_true identity))) }
 {
-    let meaning = definition(alloc, defs, 7)?;
+    let meaning = connective_known(alloc, defs, 7)?;
     let universal = universal_identity(alloc, defs)?;
-    chain(alloc, defs, &meaning, &universal)
+    trans_known(alloc, defs, &meaning, &universal)
 }
 
 /// `P t = T` from `P = (%x. T)`.
@@ -74,7 +74,7 @@ pub fn always_at(alloc: Global, defs: &Defs, th: &Thm, term: &Term) -> Result<Th
     requires formula { IsFormula (signature_of defs.now) term.now }
     ensures { IfOk result (λ a. a ≡ by_one defs.now th.now (equal truth_type (app (left th.now.concl) term.now) true_constant)) }
 {
-    let own = own(alloc, defs, term)?;
+    let own = refl_known(alloc, defs, term)?;
     unfold(alloc, defs, th, &own)
 }
 
@@ -85,7 +85,7 @@ fn identity_at(alloc: Global, defs: &Defs, term: &Term) -> Result<Thm, AllocErro
 {
     let function = identity(alloc)?;
     let redex = apply(alloc, &function, term)?;
-    reduced(alloc, defs, &redex)
+    beta_known(alloc, defs, &redex)
 }
 
 // `(%p. p) = (%x. T)` from `F`.
@@ -109,8 +109,8 @@ fn identity_true(alloc: Global, defs: &Defs, term: &Term, a: &Thm) -> Result<Thm
     always_at(alloc, defs, &always, term)
 }
 
-/// Any formula from `F`.
-pub fn anything(alloc: Global, defs: &Defs, term: &Term, a: &Thm) -> Result<Thm, AllocError>
+/// The formula from `F`.
+pub fn false_elim_known(alloc: Global, defs: &Defs, term: &Term, a: &Thm) -> Result<Thm, AllocError>
     requires within { Within a.now.defs defs.now }
     requires shape { a.now.concl ≡ false_constant }
     requires formula { IsFormula (signature_of defs.now) term.now }
@@ -138,5 +138,5 @@ pub fn false_elim(alloc: Global, defs: &Defs, term: &Term, a: &Thm) -> Result<Th
     if !is_false(alloc, a.concl())? {
         return Err(RuleFault::Shape);
     }
-    Ok(anything(alloc, defs, &term, a)?)
+    Ok(false_elim_known(alloc, defs, &term, a)?)
 }

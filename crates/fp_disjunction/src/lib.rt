@@ -1,11 +1,12 @@
-//! Forms of falsity, negation and disjunction, each made by the rules alone.
+//! Forms of falsity, negation and disjunction, each made by the rules alone. Those whose names end in `_known` have the
+//! shape of their premises as their condition and are refused for want of memory alone; the others test it first.
 #![tactic(auto)]
 
-mod disjunctions;
-mod falsity;
-mod joining;
+pub mod disjunctions;
+pub mod falsity;
+pub mod joining;
 mod kept;
-mod negation;
+pub mod negation;
 mod parts;
 
 pub use disjunctions::cases;

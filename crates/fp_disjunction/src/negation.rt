@@ -12,7 +12,7 @@ ghost use Rattle.fp_forms.specs.Shapes.{left, right};
 ghost use Rattle.fp_logic.specs.Steps.{plain, from_itself, by_one, IsImplication};
 ghost use Rattle.fp_disjunction.specs.Steps.{IsNegation};
 
-use crate::falsity::{anything, is_false};
+use crate::falsity::{false_elim_known, is_false};
 use crate::parts::negated;
 use fp_conclude::{RuleFault, conjunction, false_constant};
 use fp_forms::{implication_parts, p_variable, shapes};
@@ -22,7 +22,7 @@ use fp_logic::equations::{turn, unfold};
 use fp_logic::holding::{convert, fold, truth_equality};
 use fp_logic::implications::implied_from;
 use fp_logic::instances::instance;
-use fp_logic::steps::{assumed, definition, equate, own};
+use fp_logic::steps::{assume_known, connective_known, antisym_known, refl_known};
 use fp_logic::unfolding::own_p;
 use fp_term::Term;
 use std::alloc::{AllocError, Global};
@@ -31,7 +31,7 @@ use std::alloc::{AllocError, Global};
 fn negation_schema(alloc: Global, defs: &Defs) -> Result<Thm, AllocError>
     ensures { IfOk result (λ th. th ≡ plain defs.now (equal truth_type (negation p_variable) (implication p_variable false_constant))) }
 {
-    let meaning = definition(alloc, defs, 8)?;
+    let meaning = connective_known(alloc, defs, 8)?;
     let own = own_p(alloc, defs)?;
     unfold(alloc, defs, &meaning, &own)
 }
@@ -45,8 +45,8 @@ fn negation_meaning(alloc: Global, defs: &Defs, term: &Term) -> Result<Thm, Allo
     instance(alloc, defs, &schema, term, term)
 }
 
-// `p --> F` from `~ p`.
-fn opened(alloc: Global, defs: &Defs, a: &Thm, term: &Term) -> Result<Thm, AllocError>
+/// `p --> F` from `~ p`.
+pub fn not_elim_known(alloc: Global, defs: &Defs, a: &Thm, term: &Term) -> Result<Thm, AllocError>
     requires { IsNegation defs.now a.now term.now }
     ensures { IfOk result (λ th. th ≡ by_one defs.now a.now (implication term.now false_constant)) }
 {
@@ -54,8 +54,8 @@ fn opened(alloc: Global, defs: &Defs, a: &Thm, term: &Term) -> Result<Thm, Alloc
     convert(alloc, defs, &meaning, a)
 }
 
-// `~ p` from `p --> F`.
-fn folded(alloc: Global, defs: &Defs, a: &Thm, term: &Term) -> Result<Thm, AllocError>
+/// `~ p` from `p --> F`.
+pub fn not_intro_known(alloc: Global, defs: &Defs, a: &Thm, term: &Term) -> Result<Thm, AllocError>
     requires { IsImplication defs.now a.now term.now false_constant }
     ensures { IfOk result (λ th. th ≡ by_one defs.now a.now (negation term.now)) }
 {
@@ -76,7 +76,7 @@ fn falsity_from(
     requires falsity { falsity.now ≡ false_constant }
     ensures { IfOk result (λ th. th ≡ by_one defs.now (from_itself defs.now (conjunction p_variable false_constant)) false_constant) }
 {
-    let itself = assumed(alloc, defs, both)?;
+    let itself = assume_known(alloc, defs, both)?;
     conjunct(alloc, defs, false, &itself, term, falsity)
 }
 
@@ -86,8 +86,8 @@ fn from_falsity(alloc: Global, defs: &Defs, both: &Term, falsity: &Term) -> Resu
     requires falsity { falsity.now ≡ false_constant }
     ensures { IfOk result (λ th. th ≡ by_one defs.now (from_itself defs.now false_constant) (conjunction p_variable false_constant)) }
 {
-    let itself = assumed(alloc, defs, falsity)?;
-    anything(alloc, defs, both, &itself)
+    let itself = assume_known(alloc, defs, falsity)?;
+    false_elim_known(alloc, defs, both, &itself)
 }
 
 // `(p /\ F) = F`, by the terms.
@@ -105,7 +105,7 @@ fn contradiction_of(
 {
     let first = from_falsity(alloc, defs, both, falsity)?;
     let second = falsity_from(alloc, defs, both, term, falsity)?;
-    equate(alloc, defs, &first, &second)
+    antisym_known(alloc, defs, &first, &second)
 }
 
 // `(p /\ F) = F`, for the variable.
@@ -132,7 +132,7 @@ fn implied_falsity(alloc: Global, defs: &Defs, a: &Thm, term: &Term) -> Result<T
     requires { IsNegation defs.now a.now term.now }
     ensures { IfOk result (λ th. th ≡ by_one defs.now a.now (equal truth_type (conjunction term.now false_constant) term.now)) }
 {
-    let opened = opened(alloc, defs, a, term)?;
+    let opened = not_elim_known(alloc, defs, a, term)?;
     let falsity = false_constant(alloc)?;
     implied_from(alloc, defs, &opened, term, &falsity)
 }
@@ -144,12 +144,12 @@ fn matched(alloc: Global, defs: &Defs, first: &Thm, second: &Thm) -> Result<Thm,
     ensures { IfOk result (λ th. th ≡ by_one defs.now first.now (equal truth_type (right first.now.concl) (right second.now.concl))) }
 {
     let equality = truth_equality(alloc, defs)?;
-    let own = own(alloc, defs, shapes::left(first.concl()))?;
+    let own = refl_known(alloc, defs, shapes::left(first.concl()))?;
     turn(alloc, defs, &equality, first, second, &own)
 }
 
-// `p = F` from `~ p`.
-fn falsified(alloc: Global, defs: &Defs, a: &Thm, term: &Term) -> Result<Thm, AllocError>
+/// `p = F` from `~ p`.
+pub fn eqf_known(alloc: Global, defs: &Defs, a: &Thm, term: &Term) -> Result<Thm, AllocError>
     requires { IsNegation defs.now a.now term.now }
     ensures { IfOk result (λ th. th ≡ by_one defs.now a.now (equal truth_type term.now false_constant)) }
 {
@@ -167,7 +167,7 @@ pub fn eqf(alloc: Global, defs: &Defs, a: &Thm) -> Result<Thm, RuleFault>
     let Some(term) = part else {
         return Err(RuleFault::Shape);
     };
-    Ok(falsified(alloc, defs, a, term)?)
+    Ok(eqf_known(alloc, defs, a, term)?)
 }
 
 /// `p --> F` from `~ p`.
@@ -179,7 +179,7 @@ pub fn not_elim(alloc: Global, defs: &Defs, a: &Thm) -> Result<Thm, RuleFault>
     let Some(term) = part else {
         return Err(RuleFault::Shape);
     };
-    Ok(opened(alloc, defs, a, term)?)
+    Ok(not_elim_known(alloc, defs, a, term)?)
 }
 
 /// `~ p` from `p --> F`.
@@ -194,5 +194,5 @@ pub fn not_intro(alloc: Global, defs: &Defs, a: &Thm) -> Result<Thm, RuleFault>
     if !is_false(alloc, right)? {
         return Err(RuleFault::Shape);
     }
-    Ok(folded(alloc, defs, a, left)?)
+    Ok(not_intro_known(alloc, defs, a, left)?)
 }

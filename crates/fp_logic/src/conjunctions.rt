@@ -7,15 +7,16 @@ ghost use Rattle.fp_kernel.specs.Theorems.{from_one, from_both};
 ghost use Rattle.fp_logic.specs.Derived.{conj1_of, conj2_of};
 ghost use Rattle.fp_forms.specs.Schemas.{held};
 ghost use Rattle.fp_forms.specs.Shapes.{right};
-ghost use Rattle.fp_logic.specs.Steps.{plain, by_one, by_both};
+ghost use Rattle.fp_logic.specs.Steps.{plain, by_one, by_both, IsConjunction};
 
 use crate::choosing::conjunct;
 use crate::holding::hold;
 use crate::lemmas::recalled;
-use crate::steps::{combine, own, replace};
+use crate::steps::{mk_comb_known, refl_known, eq_mp_known};
 use fp_conclude::{RuleFault, connective};
 use fp_forms::{Lemma, conjunction_parts};
 use fp_kernel::{Defs, Thm};
+use fp_term::Term;
 use std::alloc::{AllocError, Global};
 
 // `and = and`
@@ -24,7 +25,7 @@ fn own_and(alloc: Global, defs: &Defs) -> Result<Thm, AllocError>
     ensures { IfOk result (λ th. th ≡ plain defs.now (equal (binary_type truth_type truth_type) (connective (codes "and")) (connective (codes "and")))) }
 {
     let and = connective(alloc, b"and")?;
-    own(alloc, defs, &and)
+    refl_known(alloc, defs, &and)
 }
 
 // `(T /\ T) = (p /\ q)` from `T = p` and `T = q`.
@@ -36,8 +37,8 @@ fn conjoined_sides(alloc: Global, defs: &Defs, first: &Thm, second: &Thm) -> Res
     let _hyps = first.hyps();
     let _promises = first.promises();
     let own = own_and(alloc, defs)?;
-    let once = combine(alloc, defs, &own, first)?;
-    combine(alloc, defs, &once, second)
+    let once = mk_comb_known(alloc, defs, &own, first)?;
+    mk_comb_known(alloc, defs, &once, second)
 }
 
 // `(T /\ T) = (p /\ q)` from `p` and `q`.
@@ -57,11 +58,11 @@ fn conclude_from(alloc: Global, defs: &Defs, th: &Thm) -> Result<Thm, AllocError
     ensures { IfOk result (λ p. p ≡ by_one defs.now th.now (right th.now.concl)) }
 {
     let truths = recalled(alloc, defs, Lemma::Truths)?;
-    replace(alloc, defs, th, &truths)
+    eq_mp_known(alloc, defs, th, &truths)
 }
 
-/// `p /\ q` from `p` and `q`, for formulas.
-pub fn conjoined(alloc: Global, defs: &Defs, a: &Thm, b: &Thm) -> Result<Thm, AllocError>
+/// `p /\ q` from `p` and `q`.
+pub fn conj_known(alloc: Global, defs: &Defs, a: &Thm, b: &Thm) -> Result<Thm, AllocError>
     requires first_within { Within a.now.defs defs.now }
     requires second_within { Within b.now.defs defs.now }
     ensures { IfOk result (λ th. th ≡ by_both defs.now a.now b.now (conjunction a.now.concl b.now.concl)) }
@@ -76,7 +77,21 @@ pub fn conj(alloc: Global, defs: &Defs, a: &Thm, b: &Thm) -> Result<Thm, RuleFau
     requires second_within { Within b.now.defs defs.now }
     ensures { Answers result (from_both defs.now a.now b.now (gives (conjunction a.now.concl b.now.concl))) }
 {
-    Ok(conjoined(alloc, defs, a, b)?)
+    Ok(conj_known(alloc, defs, a, b)?)
+}
+
+/// `l` from `l /\ r`.
+pub fn conj1_known(
+    alloc: Global,
+    defs: &Defs,
+    a: &Thm,
+    left: &Term,
+    right: &Term,
+) -> Result<Thm, AllocError>
+    requires { IsConjunction defs.now a.now left.now right.now }
+    ensures { IfOk result (λ th. th ≡ by_one defs.now a.now left.now) }
+{
+    conjunct(alloc, defs, true, a, left, right)
 }
 
 /// `p` from `p /\ q`.
@@ -88,7 +103,21 @@ pub fn conj1(alloc: Global, defs: &Defs, a: &Thm) -> Result<Thm, RuleFault>
     let Some((left, right)) = parts else {
         return Err(RuleFault::Shape);
     };
-    Ok(conjunct(alloc, defs, true, a, left, right)?)
+    Ok(conj1_known(alloc, defs, a, left, right)?)
+}
+
+/// `r` from `l /\ r`.
+pub fn conj2_known(
+    alloc: Global,
+    defs: &Defs,
+    a: &Thm,
+    left: &Term,
+    right: &Term,
+) -> Result<Thm, AllocError>
+    requires { IsConjunction defs.now a.now left.now right.now }
+    ensures { IfOk result (λ th. th ≡ by_one defs.now a.now right.now) }
+{
+    conjunct(alloc, defs, false, a, left, right)
 }
 
 /// `q` from `p /\ q`.
@@ -100,5 +129,5 @@ pub fn conj2(alloc: Global, defs: &Defs, a: &Thm) -> Result<Thm, RuleFault>
     let Some((left, right)) = parts else {
         return Err(RuleFault::Shape);
     };
-    Ok(conjunct(alloc, defs, false, a, left, right)?)
+    Ok(conj2_known(alloc, defs, a, left, right)?)
 }

@@ -10,10 +10,10 @@ ghost use Rattle.fp_forms.specs.Schemas.{p_variable, q_variable, both_true, choi
 ghost use Rattle.fp_logic.specs.Steps.{plain, from_itself, by_one};
 
 use crate::choosing::{choice_schema, truth_choice};
-use crate::equations::swap;
+use crate::equations::sym_known;
 use crate::holding::{fold, held_schema, truth_equality, truth_itself};
 use crate::instances::instance;
-use crate::steps::{assumed, chain, combine, equate, own};
+use crate::steps::{assume_known, trans_known, mk_comb_known, antisym_known, refl_known};
 use crate::unfolding::{conjunction_schema, implication_schema};
 use fp_conclude::{true_constant, truth_type};
 use fp_forms::shapes::left;
@@ -31,8 +31,8 @@ fn turned_round(alloc: Global, defs: &Defs, left: &Term, right: &Term) -> Result
 {
     let ty = truth_type(alloc)?;
     let equation = equivalent(alloc, left, right)?;
-    let itself = assumed(alloc, defs, &equation)?;
-    swap(alloc, defs, &itself, &ty, left)
+    let itself = assume_known(alloc, defs, &equation)?;
+    sym_known(alloc, defs, &itself, &ty, left)
 }
 
 // `(p = q) = (q = p)`
@@ -43,7 +43,7 @@ fn exchange_schema(alloc: Global, defs: &Defs) -> Result<Thm, AllocError>
     let right = q_variable(alloc)?;
     let first = turned_round(alloc, defs, &right, &left)?;
     let second = turned_round(alloc, defs, &left, &right)?;
-    equate(alloc, defs, &first, &second)
+    antisym_known(alloc, defs, &first, &second)
 }
 
 // `(l = r) = (r = l)`
@@ -71,7 +71,7 @@ fn truthful_schema(alloc: Global, defs: &Defs) -> Result<Thm, AllocError>
 {
     let held = held_schema(alloc, defs)?;
     let exchange = truth_exchange(alloc, defs)?;
-    chain(alloc, defs, &held, &exchange)
+    trans_known(alloc, defs, &held, &exchange)
 }
 
 // `(p = T) = p`
@@ -81,7 +81,7 @@ fn untrue_schema(alloc: Global, defs: &Defs) -> Result<Thm, AllocError>
     let ty = truth_type(alloc)?;
     let variable = p_variable(alloc)?;
     let truthful = truthful_schema(alloc, defs)?;
-    swap(alloc, defs, &truthful, &ty, &variable)
+    sym_known(alloc, defs, &truthful, &ty, &variable)
 }
 
 // `(T /\ T) = ((%f. f T T) = (%f. f T T))`
@@ -98,7 +98,7 @@ fn own_application(alloc: Global, defs: &Defs) -> Result<Thm, AllocError>
     ensures { IfOk result (λ th. th ≡ plain defs.now (both_true true_constant true_constant)) }
 {
     let term = applying_truths(alloc)?;
-    own(alloc, defs, &term)
+    refl_known(alloc, defs, &term)
 }
 
 // `T /\ T`
@@ -116,9 +116,9 @@ fn choices_by(alloc: Global, defs: &Defs, first: bool, schema: &Thm) -> Result<T
     ensures { IfOk result (λ th. th ≡ plain defs.now (equivalent (equivalent (choice first p_variable q_variable) (choice first true_constant true_constant)) (equivalent (chosen first p_variable q_variable) true_constant))) }
 {
     let equality = truth_equality(alloc, defs)?;
-    let applied = combine(alloc, defs, &equality, schema)?;
+    let applied = mk_comb_known(alloc, defs, &equality, schema)?;
     let truth = truth_choice(alloc, defs, schema, first)?;
-    combine(alloc, defs, &applied, &truth)
+    mk_comb_known(alloc, defs, &applied, &truth)
 }
 
 // `(x = T) = x`, for `p` or `q`.
@@ -137,7 +137,7 @@ fn choice_lemma(alloc: Global, defs: &Defs, first: bool) -> Result<Thm, AllocErr
     let schema = choice_schema(alloc, defs, first)?;
     let choices = choices_by(alloc, defs, first, &schema)?;
     let untrue = untrue_chosen(alloc, defs, first)?;
-    chain(alloc, defs, &choices, &untrue)
+    trans_known(alloc, defs, &choices, &untrue)
 }
 
 // `((p /\ q) = p) = (p = (p /\ q))`
@@ -155,7 +155,7 @@ fn turned_schema(alloc: Global, defs: &Defs) -> Result<Thm, AllocError>
 {
     let implied = implication_schema(alloc, defs)?;
     let exchange = implied_exchange(alloc, defs)?;
-    chain(alloc, defs, &implied, &exchange)
+    trans_known(alloc, defs, &implied, &exchange)
 }
 
 // `((p /\ q) = p) = (p --> q)`
@@ -164,7 +164,7 @@ fn folded_schema(alloc: Global, defs: &Defs) -> Result<Thm, AllocError>
 {
     let ty = truth_type(alloc)?;
     let implied = implication_schema(alloc, defs)?;
-    swap(alloc, defs, &implied, &ty, left(implied.concl()))
+    sym_known(alloc, defs, &implied, &ty, left(implied.concl()))
 }
 
 /// The lemma, derived.

@@ -4,9 +4,9 @@
 
 pub mod choosing;
 mod conclude;
-mod conjunctions;
+pub mod conjunctions;
 mod derivations;
-mod equality;
+pub mod equality;
 pub mod equations;
 pub mod holding;
 pub mod implications;

@@ -38,7 +38,7 @@ pub fn given(answer: Result<Thm, RuleFault>) -> Result<Thm, AllocError>
 }
 
 /// `s = u` from `s = t` and `t = u`.
-pub fn chain(alloc: Global, defs: &Defs, first: &Thm, second: &Thm) -> Result<Thm, AllocError>
+pub fn trans_known(alloc: Global, defs: &Defs, first: &Thm, second: &Thm) -> Result<Thm, AllocError>
     requires { CanChain defs.now first.now second.now }
     ensures { IfOk result (λ th. th ≡ by_both defs.now first.now second.now (chained first.now.concl second.now.concl)) }
 {
@@ -46,7 +46,7 @@ pub fn chain(alloc: Global, defs: &Defs, first: &Thm, second: &Thm) -> Result<Th
 }
 
 /// `f x = g y` from `f = g` and `x = y`.
-pub fn combine(alloc: Global, defs: &Defs, first: &Thm, second: &Thm) -> Result<Thm, AllocError>
+pub fn mk_comb_known(alloc: Global, defs: &Defs, first: &Thm, second: &Thm) -> Result<Thm, AllocError>
     requires { CanCombine defs.now first.now second.now }
     ensures { IfOk result (λ th. th ≡ by_both defs.now first.now second.now (combined first.now.concl second.now.concl)) }
 {
@@ -54,7 +54,7 @@ pub fn combine(alloc: Global, defs: &Defs, first: &Thm, second: &Thm) -> Result<
 }
 
 /// `q` from `p = q` and `p`.
-pub fn replace(alloc: Global, defs: &Defs, first: &Thm, second: &Thm) -> Result<Thm, AllocError>
+pub fn eq_mp_known(alloc: Global, defs: &Defs, first: &Thm, second: &Thm) -> Result<Thm, AllocError>
     requires { CanReplace defs.now first.now second.now }
     ensures { IfOk result (λ th. th ≡ by_both defs.now first.now second.now (right first.now.concl)) }
 {
@@ -62,7 +62,7 @@ pub fn replace(alloc: Global, defs: &Defs, first: &Thm, second: &Thm) -> Result<
 }
 
 /// `p = q` from `p`, without `q` among its hypotheses, and `q`, without `p` among its hypotheses.
-pub fn equate(alloc: Global, defs: &Defs, first: &Thm, second: &Thm) -> Result<Thm, AllocError>
+pub fn antisym_known(alloc: Global, defs: &Defs, first: &Thm, second: &Thm) -> Result<Thm, AllocError>
     requires { CanEquate defs.now first.now second.now }
     ensures { IfOk result (λ th. th ≡ record {
       defs = defs.now;
@@ -75,7 +75,7 @@ pub fn equate(alloc: Global, defs: &Defs, first: &Thm, second: &Thm) -> Result<T
 }
 
 /// `t = t`, for a well-typed term.
-pub fn own(alloc: Global, defs: &Defs, term: &Term) -> Result<Thm, AllocError>
+pub fn refl_known(alloc: Global, defs: &Defs, term: &Term) -> Result<Thm, AllocError>
     requires { (s : Typ) × IsWellTyped (signature_of defs.now) term.now s }
     ensures { IfOk result (λ th. (s : Typ) → type_under [] term.now ≡ Some s → th ≡ plain defs.now (equal s term.now term.now)) }
 {
@@ -83,7 +83,7 @@ pub fn own(alloc: Global, defs: &Defs, term: &Term) -> Result<Thm, AllocError>
 }
 
 /// `(%v. b) u = b` with `u` for `v`, for a well-typed redex.
-pub fn reduced(alloc: Global, defs: &Defs, term: &Term) -> Result<Thm, AllocError>
+pub fn beta_known(alloc: Global, defs: &Defs, term: &Term) -> Result<Thm, AllocError>
     requires redex { IsRedex term.now }
     requires typed { (s : Typ) × IsWellTyped (signature_of defs.now) term.now s }
     ensures { IfOk result (λ th. (s : Typ) → type_under [] term.now ≡ Some s → th ≡ plain defs.now (equal s term.now (opened 0 (argument_in term.now) (body_in (function_in term.now))))) }
@@ -92,7 +92,7 @@ pub fn reduced(alloc: Global, defs: &Defs, term: &Term) -> Result<Thm, AllocErro
 }
 
 /// A formula from itself.
-pub fn assumed(alloc: Global, defs: &Defs, term: &Term) -> Result<Thm, AllocError>
+pub fn assume_known(alloc: Global, defs: &Defs, term: &Term) -> Result<Thm, AllocError>
     requires { IsFormula (signature_of defs.now) term.now }
     ensures { IfOk result (λ th. th ≡ from_itself defs.now term.now) }
 {
@@ -100,7 +100,7 @@ pub fn assumed(alloc: Global, defs: &Defs, term: &Term) -> Result<Thm, AllocErro
 }
 
 /// The definition of the connective of that number.
-pub fn definition(alloc: Global, defs: &Defs, number: u32) -> Result<Thm, AllocError>
+pub fn connective_known(alloc: Global, defs: &Defs, number: u32) -> Result<Thm, AllocError>
     requires first { 1 ≤ number }
     requires last { number ≤ 8 }
     ensures { IfOk result (λ th. th ≡ plain defs.now (connective_numbered number)) }

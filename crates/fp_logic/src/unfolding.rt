@@ -8,7 +8,7 @@ ghost use Rattle.fp_forms.specs.Schemas.{p_variable, q_variable, itself, both_tr
 
 use crate::equations::unfold;
 use crate::lemmas::lemma_at;
-use crate::steps::{definition, own};
+use crate::steps::{connective_known, refl_known};
 use fp_forms::{Lemma, p_variable, q_variable};
 use fp_kernel::{Defs, Thm};
 use fp_term::Term;
@@ -19,7 +19,7 @@ pub fn own_p(alloc: Global, defs: &Defs) -> Result<Thm, AllocError>
     ensures { IfOk result (λ th. th ≡ plain defs.now (itself p_variable)) }
 {
     let term = p_variable(alloc)?;
-    own(alloc, defs, &term)
+    refl_known(alloc, defs, &term)
 }
 
 /// `q = q`, for the variable.
@@ -27,7 +27,7 @@ pub fn own_q(alloc: Global, defs: &Defs) -> Result<Thm, AllocError>
     ensures { IfOk result (λ th. th ≡ plain defs.now (itself q_variable)) }
 {
     let term = q_variable(alloc)?;
-    own(alloc, defs, &term)
+    refl_known(alloc, defs, &term)
 }
 
 // `f p = (%q. b)`, from `f = (%p q. b)`.
@@ -53,7 +53,7 @@ pub fn unfold_twice(alloc: Global, defs: &Defs, th: &Thm) -> Result<Thm, AllocEr
 pub fn conjunction_schema(alloc: Global, defs: &Defs) -> Result<Thm, AllocError>
     ensures { IfOk result (λ th. th ≡ plain defs.now (equal truth_type (conjunction p_variable q_variable) (both_true p_variable q_variable))) }
 {
-    let meaning = definition(alloc, defs, 2)?;
+    let meaning = connective_known(alloc, defs, 2)?;
     unfold_twice(alloc, defs, &meaning)
 }
 
@@ -61,7 +61,7 @@ pub fn conjunction_schema(alloc: Global, defs: &Defs) -> Result<Thm, AllocError>
 pub fn implication_schema(alloc: Global, defs: &Defs) -> Result<Thm, AllocError>
     ensures { IfOk result (λ th. th ≡ plain defs.now (equal truth_type (implication p_variable q_variable) (implied p_variable q_variable))) }
 {
-    let meaning = definition(alloc, defs, 3)?;
+    let meaning = connective_known(alloc, defs, 3)?;
     unfold_twice(alloc, defs, &meaning)
 }
 

@@ -7,7 +7,7 @@ ghost use Rattle.fp_forms.specs.Schemas.{q_variable};
 ghost use Rattle.fp_logic.specs.Steps.{plain, from_itself, by_one, by_both};
 ghost use Rattle.fp_forms.specs.Existence.{predicate_variable, element_variable, holds, some_such, each_implies, reaches, reaches_all, each_chosen};
 
-use crate::universal::{generalized, specialized};
+use crate::universal::{gen_all_known, specialized};
 use fp_conclude::{alpha, truth_type};
 use fp_forms::existence::{
     each_implies, element_variable, held, implied_body, predicate_variable, some,
@@ -17,8 +17,8 @@ use fp_forms::shapes::{argument_in, body_in};
 use fp_kernel::{Defs, Thm};
 use fp_logic::equations::unfold;
 use fp_logic::holding::{convert, fold};
-use fp_logic::implications::{discharged, modus};
-use fp_logic::steps::{assumed, definition, given, own};
+use fp_logic::implications::{disch_known, mp_known};
+use fp_logic::steps::{assume_known, connective_known, given, refl_known};
 use fp_term::{Name, Term};
 use std::alloc::{AllocError, Global};
 
@@ -26,9 +26,9 @@ use std::alloc::{AllocError, Global};
 fn meaning(alloc: Global, defs: &Defs) -> Result<Thm, AllocError>
     ensures { IfOk result (λ th. th ≡ plain defs.now (equal truth_type (some_such alpha predicate_variable) (reaches_all alpha predicate_variable))) }
 {
-    let meaning = definition(alloc, defs, 5)?;
+    let meaning = connective_known(alloc, defs, 5)?;
     let predicate = predicate_variable(alloc)?;
-    let own = own(alloc, defs, &predicate)?;
+    let own = refl_known(alloc, defs, &predicate)?;
     unfold(alloc, defs, &meaning, &own)
 }
 
@@ -48,7 +48,7 @@ fn implied_by(alloc: Global, defs: &Defs, each: &Term) -> Result<Thm, AllocError
     requires { each.now ≡ each_implies alpha predicate_variable q_variable }
     ensures { IfOk result (λ th. th ≡ by_one defs.now (from_itself defs.now (each_implies alpha predicate_variable q_variable)) (implication holds q_variable)) }
 {
-    let itself = assumed(alloc, defs, each)?;
+    let itself = assume_known(alloc, defs, each)?;
     implied(alloc, defs, &itself)
 }
 
@@ -59,9 +59,8 @@ fn reached(alloc: Global, defs: &Defs, each: &Term, held: &Term) -> Result<Thm, 
     ensures { IfOk result (λ th. th ≡ by_both defs.now (from_itself defs.now (each_implies alpha predicate_variable q_variable)) (from_itself defs.now holds) q_variable) }
 {
     let implied = implied_by(alloc, defs, each)?;
-    let itself = assumed(alloc, defs, held)?;
-    let variable = q_variable(alloc)?;
-    modus(alloc, defs, &implied, &itself, held, &variable)
+    let itself = assume_known(alloc, defs, held)?;
+    mp_known(alloc, defs, &implied, &itself)
 }
 
 // `(!x. P x --> q) --> q` from `P x` itself.
@@ -71,7 +70,7 @@ fn reaches(alloc: Global, defs: &Defs, held: &Term) -> Result<Thm, AllocError>
 {
     let each = each_implies(alloc)?;
     let reached = reached(alloc, defs, &each, held)?;
-    discharged(alloc, defs, &each, &reached)
+    disch_known(alloc, defs, &each, &reached)
 }
 
 // `!q. (!x. P x --> q) --> q` from `P x` itself.
@@ -83,7 +82,7 @@ fn reaches_all(alloc: Global, defs: &Defs, held: &Term) -> Result<Thm, AllocErro
     let reaches = reaches(alloc, defs, held)?;
     let name = Name::of(alloc, b"q")?;
     let ty = truth_type(alloc)?;
-    generalized(alloc, defs, &name, &ty, &reaches)
+    gen_all_known(alloc, defs, &name, &ty, &reaches)
 }
 
 // `ex P` from `P x` itself.
@@ -102,7 +101,7 @@ pub(crate) fn introduction(alloc: Global, defs: &Defs) -> Result<Thm, AllocError
 {
     let held = held(alloc)?;
     let some = some_from(alloc, defs, &held)?;
-    discharged(alloc, defs, &held, &some)
+    disch_known(alloc, defs, &held, &some)
 }
 
 // `!q. (!x. P x --> q) --> q` from `ex P` itself.
@@ -111,7 +110,7 @@ fn opened(alloc: Global, defs: &Defs, some: &Term) -> Result<Thm, AllocError>
     ensures { IfOk result (λ th. th ≡ by_one defs.now (from_itself defs.now (some_such alpha predicate_variable)) (reaches_all alpha predicate_variable)) }
 {
     let meaning = meaning(alloc, defs)?;
-    let itself = assumed(alloc, defs, some)?;
+    let itself = assume_known(alloc, defs, some)?;
     convert(alloc, defs, &meaning, &itself)
 }
 
@@ -139,7 +138,7 @@ pub(crate) fn elimination(alloc: Global, defs: &Defs) -> Result<Thm, AllocError>
 {
     let some = some(alloc)?;
     let reaches = reaches_from(alloc, defs, &some)?;
-    discharged(alloc, defs, &some, &reaches)
+    disch_known(alloc, defs, &some, &reaches)
 }
 
 // `P x --> P (select P)`
@@ -157,5 +156,5 @@ pub(crate) fn choice(alloc: Global, defs: &Defs) -> Result<Thm, AllocError>
     let selection = selection(alloc, defs)?;
     let name = Name::of(alloc, b"x")?;
     let ty = alpha(alloc)?;
-    generalized(alloc, defs, &name, &ty, &selection)
+    gen_all_known(alloc, defs, &name, &ty, &selection)
 }

@@ -14,7 +14,7 @@ ghost use Rattle.fp_quant.specs.Existential.{witness_type, witnessed, exists_of,
 
 use crate::fault::{free_in_hyps, unknown_name};
 use crate::steps::variable;
-use crate::witness::{chosen, eliminated, witnessed};
+use crate::witness::{select_known, choose_known, exists_known};
 use fp_conclude::{RuleFault, differ, occurs, occurs_in_any, without};
 use fp_forms::existence_parts;
 use fp_forms::shapes::argument_in;
@@ -83,7 +83,7 @@ fn witnessed_by(
     if !of_witness.equals(ty) {
         return Err(RuleFault::IllTyped(Place::here(alloc)));
     }
-    Ok(witnessed(alloc, defs, a, ty, body, witness)?)
+    Ok(exists_known(alloc, defs, a, ty, body, witness)?)
 }
 
 /// `t`, which is `?v. p`, from `p` with the witness for `v`.
@@ -153,7 +153,7 @@ fn chosen_by(
     if !ty.equals(bound) {
         return Err(RuleFault::IllTyped(Place::here(alloc)));
     }
-    Ok(eliminated(alloc, defs, name, ty, argument_in(a.concl()), a, b)?)
+    Ok(choose_known(alloc, defs, name, ty, argument_in(a.concl()), a, b)?)
 }
 
 /// `q` from `?v. p` and from `q`, without `p` with the variable for `v` among the hypotheses of the second theorem. The
@@ -189,5 +189,5 @@ pub fn select(alloc: Global, defs: &Defs, a: &Thm) -> Result<Thm, RuleFault>
     let Some((ty, _)) = parts else {
         return Err(RuleFault::Shape);
     };
-    Ok(chosen(alloc, defs, a, ty, argument_in(a.concl()))?)
+    Ok(select_known(alloc, defs, a, ty, argument_in(a.concl()))?)
 }

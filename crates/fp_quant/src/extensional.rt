@@ -16,12 +16,12 @@ ghost use Rattle.fp_quant.specs.Meanings.{eta_at};
 ghost use Rattle.fp_quant.specs.Universal.{applied_to_variable, same_functions, same_values, ext_of};
 
 use crate::fault::{free_in_hyps, unknown_name};
-use crate::steps::{abstracted, extension, replaced, retyped_at_both, variable};
+use crate::steps::{lam_known, extension, inst_known, retyped_at_both, variable};
 use fp_conclude::{Equation, RuleFault, occurs, occurs_in_any, sides};
 use fp_forms::shapes::left;
 use fp_kernel::{Defs, Thm};
-use fp_logic::equations::swap;
-use fp_logic::steps::chain;
+use fp_logic::equations::sym_known;
+use fp_logic::steps::trans_known;
 use fp_term::{Name, Node, Term, Ty, function_of, same};
 use std::alloc::{AllocError, Global};
 
@@ -58,16 +58,16 @@ fn eta(alloc: Global, defs: &Defs, from: &Ty, to: &Ty, function: &Term) -> Resul
 {
     let schema = eta_schema(alloc, defs, from, to)?;
     let pairs = [for_t(alloc, from, to, function)?];
-    replaced(alloc, defs, &schema, &pairs)
+    inst_known(alloc, defs, &schema, &pairs)
 }
 
-// Two functions, from which type and to which.
+/// Two functions, from which type and to which.
 #[derive(Drop)]
-struct Functions<'a> {
-    from: &'a Ty,
-    to: &'a Ty,
-    left: &'a Term,
-    right: &'a Term,
+pub struct Functions<'a> {
+    pub from: &'a Ty,
+    pub to: &'a Ty,
+    pub left: &'a Term,
+    pub right: &'a Term,
 }
 
 // `f = (%x. f x)`, for the first function.
@@ -77,7 +77,7 @@ fn expanded(alloc: Global, defs: &Defs, functions: &Functions<'_>) -> Result<Thm
 {
     let ty = functions_type(alloc, functions.from, functions.to)?;
     let eta = eta(alloc, defs, functions.from, functions.to, functions.left)?;
-    swap(alloc, defs, &eta, &ty, left(eta.concl()))
+    sym_known(alloc, defs, &eta, &ty, left(eta.concl()))
 }
 
 // `f = (%x. g x)` from `(%x. f x) = (%x. g x)`.
@@ -95,7 +95,7 @@ fn left_reduced(
     let _hyps = th.hyps();
     let _promises = th.promises();
     let expanded = expanded(alloc, defs, functions)?;
-    chain(alloc, defs, &expanded, th)
+    trans_known(alloc, defs, &expanded, th)
 }
 
 // `f = g` from `f = (%x. g x)`.
@@ -111,11 +111,11 @@ fn right_reduced(
     ensures { IfOk result (λ r. r ≡ by_one defs.now th.now (alike functions.now)) }
 {
     let eta = eta(alloc, defs, functions.from, functions.to, functions.right)?;
-    chain(alloc, defs, th, &eta)
+    trans_known(alloc, defs, th, &eta)
 }
 
-// `f = g` from `f x = g x`.
-fn extended(
+/// `f = g` from `f x = g x`, for a variable that is free in neither and in no hypothesis.
+pub fn ext_known(
     alloc: Global,
     defs: &Defs,
     name: &Name,
@@ -131,7 +131,7 @@ fn extended(
     ensures { IfOk result (λ th. th ≡ by_one defs.now a.now (alike functions.now)) }
 {
     let _concl = a.concl();
-    let alike = abstracted(alloc, defs, name, functions.from, a)?;
+    let alike = lam_known(alloc, defs, name, functions.from, a)?;
     let first = left_reduced(alloc, defs, functions, &alike)?;
     right_reduced(alloc, defs, functions, &first)
 }
@@ -181,7 +181,7 @@ fn same_functions(
     if is_free(name, functions, a.hyps()) {
         return Err(free_in_hyps(name));
     }
-    Ok(extended(alloc, defs, name, functions, a)?)
+    Ok(ext_known(alloc, defs, name, functions, a)?)
 }
 
 // `f = g` from `f x = g x`, by the parts of the equation.

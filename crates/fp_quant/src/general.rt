@@ -12,7 +12,7 @@ ghost use Rattle.fp_logic.specs.Steps.{by_one};
 ghost use Rattle.fp_quant.specs.Universal.{value_at, gen_all_of, specialized_at, spec_of};
 
 use crate::fault::{free_in_hyps, unknown_name};
-use crate::universal::{applied_to, generalized, specialized};
+use crate::universal::{applied_to, gen_all_known, specialized};
 use fp_conclude::{RuleFault, occurs_in_any, typed_over};
 use fp_forms::quantified;
 use fp_kernel::{Defs, Thm};
@@ -30,11 +30,11 @@ pub fn gen_all(alloc: Global, defs: &Defs, name: &Name, ty: &Ty, a: &Thm) -> Res
     if occurs_in_any(name, ty, a.hyps()) {
         return Err(free_in_hyps(name));
     }
-    Ok(generalized(alloc, defs, name, ty, a)?)
+    Ok(gen_all_known(alloc, defs, name, ty, a)?)
 }
 
-// `P` at `t`, from `all P`.
-fn instance(
+/// `p` with `t` in place of `v` where `P` is `%v. p`, and else `P t`, from `all P`.
+pub fn spec_known(
     alloc: Global,
     defs: &Defs,
     a: &Thm,
@@ -72,7 +72,7 @@ fn specialized_at(
     if !of_term.equals(ty) {
         return Err(RuleFault::IllTyped(Place::here(alloc)));
     }
-    Ok(instance(alloc, defs, a, ty, predicate, term)?)
+    Ok(spec_known(alloc, defs, a, ty, predicate, term)?)
 }
 
 /// `p` with `t` in place of `v` from `!v. p`, and `P t` from `all P`.

@@ -13,7 +13,7 @@ ghost use Rattle.fp_quant.specs.Existence.{placed, IsPredicate};
 ghost use Rattle.fp_quant.specs.Meanings.{for_alpha};
 
 use crate::kept::recalled;
-use crate::steps::{replaced, retyped_at};
+use crate::steps::{inst_known, retyped_at};
 use fp_conclude::{predicate_over, truth_type};
 use fp_forms::existence::ExistenceSchema;
 use fp_kernel::{Defs, Thm};
@@ -69,7 +69,7 @@ fn with_terms(
     ensures { IfOk result (λ i. i ≡ plain defs.now (replaced (placed ty.now predicate.now other.0 other.1 other.2) th.now.concl)) }
 {
     let pairs = [for_predicate(alloc, ty, predicate)?, other];
-    replaced(alloc, defs, th, &pairs)
+    inst_known(alloc, defs, th, &pairs)
 }
 
 /// `P t --> ex P`

@@ -15,7 +15,7 @@ use fp_term::{Name, Term, Ty};
 use std::alloc::{AllocError, Global};
 
 /// The variable of that name and type.
-pub(crate) fn variable(alloc: Global, name: &Name, ty: &Ty) -> Result<Term, AllocError>
+pub fn variable(alloc: Global, name: &Name, ty: &Ty) -> Result<Term, AllocError>
     ensures { IfOk result (λ t. t ≡ free name.now ty.now) }
 {
     Term::free(alloc, name.copy()?, ty.copy()?)
@@ -38,7 +38,7 @@ fn for_beta(alloc: Global, ty: &Ty) -> Result<(Name, Ty), AllocError>
 }
 
 // The instance by types of a theorem without hypotheses over some of the definitions.
-fn retyped(alloc: Global, defs: &Defs, th: &Thm, pairs: &[(Name, Ty)]) -> Result<Thm, AllocError>
+fn inst_ty_known(alloc: Global, defs: &Defs, th: &Thm, pairs: &[(Name, Ty)]) -> Result<Thm, AllocError>
     requires whole { th.now ≡ plain th.now.defs th.now.concl }
     requires within { Within th.now.defs defs.now }
     requires known { AreTypesOf (signature_of defs.now) pairs.now }
@@ -48,18 +48,18 @@ fn retyped(alloc: Global, defs: &Defs, th: &Thm, pairs: &[(Name, Ty)]) -> Result
 }
 
 /// The instance by a type for `'a`.
-pub(crate) fn retyped_at(alloc: Global, defs: &Defs, th: &Thm, ty: &Ty) -> Result<Thm, AllocError>
+pub fn retyped_at(alloc: Global, defs: &Defs, th: &Thm, ty: &Ty) -> Result<Thm, AllocError>
     requires whole { th.now ≡ plain th.now.defs th.now.concl }
     requires within { Within th.now.defs defs.now }
     requires known { IsType (signature_of defs.now) ty.now }
     ensures { IfOk result (λ i. i ≡ plain defs.now (retyped_term (for_alpha ty.now) th.now.concl)) }
 {
     let pairs = [for_alpha(alloc, ty)?];
-    retyped(alloc, defs, th, &pairs)
+    inst_ty_known(alloc, defs, th, &pairs)
 }
 
 /// The instance by types for `'a` and `'b`.
-pub(crate) fn retyped_at_both(
+pub fn retyped_at_both(
     alloc: Global,
     defs: &Defs,
     th: &Thm,
@@ -74,11 +74,11 @@ pub(crate) fn retyped_at_both(
 {
     let alpha = for_alpha(alloc, first)?;
     let pairs = [alpha, for_beta(alloc, second)?];
-    retyped(alloc, defs, th, &pairs)
+    inst_ty_known(alloc, defs, th, &pairs)
 }
 
 /// The instance by terms of a theorem without hypotheses.
-pub(crate) fn replaced(
+pub fn inst_known(
     alloc: Global,
     defs: &Defs,
     th: &Thm,
@@ -92,7 +92,7 @@ pub(crate) fn replaced(
 }
 
 /// `(%x. s) = (%x. t)` from `s = t`, for a variable that is free in no hypothesis.
-pub(crate) fn abstracted(
+pub fn lam_known(
     alloc: Global,
     defs: &Defs,
     name: &Name,
@@ -106,7 +106,7 @@ pub(crate) fn abstracted(
 }
 
 /// `(%x. t x) = t`, the first axiom.
-pub(crate) fn extension(alloc: Global, defs: &Defs) -> Result<Thm, AllocError>
+pub fn extension(alloc: Global, defs: &Defs) -> Result<Thm, AllocError>
     ensures { IfOk result (λ th. th ≡ plain defs.now eta) }
 {
     given(defs.axiom(alloc, 1))

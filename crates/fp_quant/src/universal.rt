@@ -10,14 +10,14 @@ ghost use Rattle.fp_kernel.specs.Start.{signature_of};
 ghost use Rattle.fp_logic.specs.Steps.{plain, by_one};
 ghost use Rattle.fp_quant.specs.Meanings.{always, universal_at};
 
-use crate::steps::{abstracted, retyped_at};
+use crate::steps::{lam_known, retyped_at};
 use fp_conclude::abstraction;
 use fp_forms::shapes::left;
 use fp_kernel::{Defs, Thm};
 use fp_logic::equations::unfold;
 use fp_logic::holding::{convert, fold};
-use fp_logic::steps::{definition, own, reduced};
-use fp_logic::truths::{true_equation, untrue};
+use fp_logic::steps::{connective_known, refl_known, beta_known};
+use fp_logic::truths::{eqt_known, eqt_elim_known};
 use fp_term::{Name, Term, Ty};
 use std::alloc::{AllocError, Global};
 
@@ -26,12 +26,12 @@ fn universal_schema(alloc: Global, defs: &Defs, ty: &Ty) -> Result<Thm, AllocErr
     requires { IsType (signature_of defs.now) ty.now }
     ensures { IfOk result (λ th. th ≡ plain defs.now (universal_at ty.now)) }
 {
-    let meaning = definition(alloc, defs, 4)?;
+    let meaning = connective_known(alloc, defs, 4)?;
     retyped_at(alloc, defs, &meaning, ty)
 }
 
 /// `all P = (P = (%x. T))`, for a predicate on the type.
-pub(crate) fn universal(
+pub fn universal(
     alloc: Global,
     defs: &Defs,
     ty: &Ty,
@@ -41,7 +41,7 @@ pub(crate) fn universal(
     ensures { IfOk result (λ th. th ≡ plain defs.now (equal truth_type (app (quantifier (codes "all") ty.now) predicate.now) (always ty.now predicate.now))) }
 {
     let schema = universal_schema(alloc, defs, ty)?;
-    let own = own(alloc, defs, predicate)?;
+    let own = refl_known(alloc, defs, predicate)?;
     unfold(alloc, defs, &schema, &own)
 }
 
@@ -52,12 +52,12 @@ fn always_from(alloc: Global, defs: &Defs, name: &Name, ty: &Ty, a: &Thm) -> Res
     requires apart { occurs_in_any name.now ty.now a.now.hyps ≡ false }
     ensures { IfOk result (λ th. th ≡ by_one defs.now a.now (always ty.now (abs ty.now (closed 0 name.now ty.now a.now.concl)))) }
 {
-    let equation = true_equation(alloc, defs, a)?;
-    abstracted(alloc, defs, name, ty, &equation)
+    let equation = eqt_known(alloc, defs, a)?;
+    lam_known(alloc, defs, name, ty, &equation)
 }
 
 /// `!x. p` from `p`, for a variable in no hypothesis.
-pub(crate) fn generalized(
+pub fn gen_all_known(
     alloc: Global,
     defs: &Defs,
     name: &Name,
@@ -106,12 +106,12 @@ fn true_at(
     ensures { IfOk result (λ th. th ≡ by_one defs.now a.now (equal truth_type (app predicate.now term.now) true_constant)) }
 {
     let always = always_of(alloc, defs, a, ty, predicate)?;
-    let own = own(alloc, defs, term)?;
+    let own = refl_known(alloc, defs, term)?;
     unfold(alloc, defs, &always, &own)
 }
 
 /// `P t` from `all P`.
-pub(crate) fn applied_to(
+pub fn applied_to(
     alloc: Global,
     defs: &Defs,
     a: &Thm,
@@ -125,11 +125,11 @@ pub(crate) fn applied_to(
     ensures { IfOk result (λ th. th ≡ by_one defs.now a.now (app predicate.now term.now)) }
 {
     let against = true_at(alloc, defs, a, ty, predicate, term)?;
-    untrue(alloc, defs, &against, left(against.concl()))
+    eqt_elim_known(alloc, defs, &against, left(against.concl()))
 }
 
 /// `p` with `t` in place of `v`, from `!v. p`.
-pub(crate) fn specialized(
+pub fn specialized(
     alloc: Global,
     defs: &Defs,
     a: &Thm,
@@ -144,6 +144,6 @@ pub(crate) fn specialized(
 {
     let predicate = abstraction(alloc, ty, body)?;
     let applied = applied_to(alloc, defs, a, ty, &predicate, term)?;
-    let step = reduced(alloc, defs, applied.concl())?;
+    let step = beta_known(alloc, defs, applied.concl())?;
     convert(alloc, defs, &step, &applied)
 }

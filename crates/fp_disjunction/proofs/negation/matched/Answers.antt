@@ -7,8 +7,8 @@ use Rattle.fp_logic.proofs.Given.{known_typed}
 use Rattle.fp_disjunction.proofs.Matched.{first_typed, match_asks, match_gives}
 use Rattle.fp_disjunction.proofs.negation.matched.Goals as goal
 
-pub own-requires : goal.own-requires
-own-requires c =
+pub refl_known-requires : goal.refl_known-requires
+refl_known-requires c =
     known_typed c.args.defs.now c.left.result.now (left c.args.first.now.concl) truth_type (c.left.ensures ∙ ap left c.concl.ensures.value) (first_typed c.args.defs.now c.args.first.now c.requires.first c.concl.ensures.derived)
 
 pub turn-requires : goal.turn-requires

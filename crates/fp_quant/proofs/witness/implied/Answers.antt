@@ -8,8 +8,8 @@ use Rattle.fp_quant.proofs.Reached.{itself_plain}
 use Rattle.fp_quant.proofs.Placed.{plain_within}
 use Rattle.fp_quant.proofs.witness.implied.Goals as goal
 
-pub discharged-requires-clause-formula : goal.discharged-requires-clause-formula
-discharged-requires-clause-formula c =
+pub disch_known-requires-clause-formula : goal.disch_known-requires-clause-formula
+disch_known-requires-clause-formula c =
     let l = left c.args.equation.now.concl in
     let r = right c.args.equation.now.concl in
     let within = plain_within c.args.defs.now c.args.equation.now (itself_plain c.args.defs.now c.args.equation.now (equal truth_type l r) c.requires.equation) in
