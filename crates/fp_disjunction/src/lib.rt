@@ -9,7 +9,7 @@ mod kept;
 pub mod negation;
 mod parts;
 
-pub use disjunctions::cases;
-pub use falsity::false_elim;
-pub use joining::{disj1, disj2};
-pub use negation::{eqf, not_elim, not_intro};
+pub use disjunctions::{cases, cases_known};
+pub use falsity::{false_elim, false_elim_known};
+pub use joining::{disj1, disj1_known, disj2, disj2_known};
+pub use negation::{eqf, eqf_known, not_elim, not_elim_known, not_intro, not_intro_known};

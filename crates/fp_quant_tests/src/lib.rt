@@ -5,6 +5,8 @@
 #[cfg(test)]
 mod conversions;
 #[cfg(test)]
+mod high;
+#[cfg(test)]
 mod quantifiers;
 #[cfg(test)]
 mod rewriting;
