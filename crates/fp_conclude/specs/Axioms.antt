@@ -2,6 +2,10 @@
 use Rattle.std.specs.Prelude.{ℕ, ◌==◌, if◌then◌else◌, List, [], ◌∷◌, codes}
 use Rattle.fp_term.specs.Terms.{Tm, bound, free, app, abs}
 use Rattle.fp_term.specs.Typing.{function_type}
+use Rattle.fp_conclude.specs.declared.axioms.Axiom.{Axiom}
+use Rattle.fp_conclude.specs.declared.axioms.Axiom.TheVariants.{Eta, Selection, Infinity}
+use Rattle.fp_conclude.specs.declared.connectives.LogicalConstant.{LogicalConstant}
+use Rattle.fp_conclude.specs.declared.connectives.LogicalConstant.TheVariants.{Truth, Conjunction, Implication, Universal, Existential, Disjunction, Falsity, Negation}
 use Rattle.fp_conclude.specs.Logic.{truth_type, individuals, alpha, beta, predicate_type, binary_type, quantifier_type, equal, select, true_constant, false_constant, connective, conjunction, implication, negation_constant, negation, quantifier, for_all, for_some}
 
 -- `(%x. t x) = t`
@@ -66,6 +70,22 @@ not_is = equal (predicate_type truth_type) negation_constant (abs truth_type (im
 
 abbrev pub connectives : List Tm
 connectives = true_is ∷ and_is ∷ imp_is ∷ all_is ∷ ex_is ∷ or_is ∷ false_is ∷ not_is ∷ []
+
+-- what each axiom states, and how each logical constant is defined
+abbrev pub axiom_statement : Axiom → Tm
+axiom_statement Eta = eta
+axiom_statement Selection = selection
+axiom_statement Infinity = infinity
+
+abbrev pub definition_statement : LogicalConstant → Tm
+definition_statement Truth = true_is
+definition_statement Conjunction = and_is
+definition_statement Implication = imp_is
+definition_statement Universal = all_is
+definition_statement Existential = ex_is
+definition_statement Disjunction = or_is
+definition_statement Falsity = false_is
+definition_statement Negation = not_is
 
 -- the axiom, and the connective's definition, of that number from 1
 abbrev pub axiom_numbered : ℕ → Tm

@@ -2,6 +2,8 @@ pub mod Logic
 pub mod Hypotheses
 pub mod Outcomes
 pub mod Parts
+pub mod Shapes
 pub mod Checks
 pub mod Rules
+pub mod Known
 pub mod Axioms

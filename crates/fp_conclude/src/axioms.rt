@@ -1,9 +1,10 @@
+//! The axioms.
 ghost use Rattle.std.specs.Prelude.{◌≡◌, ◌≤◌, codes, IfOk, IsTrue};
 ghost use Rattle.fp_term.specs.Names.{is_name};
 ghost use Rattle.fp_term.specs.Terms.{bound, free, app, abs};
 ghost use Rattle.fp_term.specs.Typing.{function_type};
 ghost use Rattle.fp_conclude.specs.Logic.{alpha, beta, individuals, predicate_type, equal, conjunction, implication, negation, for_all, for_some, select};
-ghost use Rattle.fp_conclude.specs.Axioms.{eta, selection, infinity, axiom_numbered};
+ghost use Rattle.fp_conclude.specs.Axioms.{eta, selection, infinity, axiom_statement, axiom_numbered};
 
 use crate::formula::{
     abstraction, alpha, beta_variable, conjunction, for_all, for_some, implication, individuals,
@@ -12,6 +13,17 @@ use crate::formula::{
 use crate::logic::{apply, equation, predicate_over};
 use fp_term::{Name, Term, Ty, function_of};
 use std::alloc::{AllocError, Global};
+
+/// The axioms of the logic.
+#[derive(Clone, Copy)]
+pub enum Axiom {
+    /// `(%x. t x) = t`
+    Eta,
+    /// `P x --> P (select P)`
+    Selection,
+    /// `?f. (!x y. f x = f y --> x = y) /\ ~ (!y. ?x. y = f x)`, for a function of individuals
+    Infinity,
+}
 
 fn variable(alloc: Global, name: &[u8], ty: &Ty) -> Result<Term, AllocError>
     requires { IsTrue (is_name name.now) }
@@ -137,13 +149,26 @@ fn infinity(alloc: Global) -> Result<Term, AllocError>
     for_some(alloc, &ty, &body)
 }
 
-/// The axiom of that number: ETA, SELECT, INFINITY.
-pub fn axiom(alloc: Global, number: u32) -> Result<Term, AllocError>
-    ensures { IfOk result (λ t. t ≡ axiom_numbered number) }
-{
-    match number {
-        1 => eta(alloc),
-        2 => selection(alloc),
-        _ => infinity(alloc),
+impl Axiom {
+    /// What the axiom states.
+    pub fn statement(self, alloc: Global) -> Result<Term, AllocError>
+        ensures { IfOk result (λ t. t ≡ axiom_statement self) }
+    {
+        match self {
+            Axiom::Eta => eta(alloc),
+            Axiom::Selection => selection(alloc),
+            Axiom::Infinity => infinity(alloc),
+        }
+    }
+
+    /// The axiom of that number, from 1.
+    pub fn numbered(number: u32) -> Axiom
+        ensures { axiom_statement result ≡ axiom_numbered number }
+    {
+        match number {
+            1 => Axiom::Eta,
+            2 => Axiom::Selection,
+            _ => Axiom::Infinity,
+        }
     }
 }

@@ -1,3 +1,4 @@
+//! Whether what is passed to a rule is well typed over the signature.
 ghost use Rattle.std.specs.Prelude.{◌≡◌, true, IfOk};
 ghost use Rattle.std.specs.Option.{option_copied};
 ghost use Rattle.fp_conclude.specs.Outcomes.{Answers};

@@ -1,3 +1,4 @@
+//! What the rules conclude from the conclusions of their premises, or why they conclude nothing.
 ghost use Rattle.std.specs.Prelude.{◌≡◌, IfOk};
 ghost use Rattle.fp_conclude.specs.Outcomes.{Answers};
 ghost use Rattle.fp_term.specs.Terms.{app, abs, closed};
@@ -37,8 +38,8 @@ pub fn trans(alloc: Global, first: &Term, second: &Term) -> Result<Term, RuleFau
     Ok(apply_both(alloc, a.equality, a.left, b.right)?)
 }
 
-/// The equation of the applications.
-pub(crate) fn applied(
+// The equation of the applications.
+fn applied(
     alloc: Global,
     ty: &Ty,
     functions: &Equation<'_>,
@@ -75,8 +76,13 @@ fn abstraction(alloc: Global, name: &Name, ty: &Ty, term: &Term) -> Result<Term,
     Term::abs(alloc, ty.copy()?, body)
 }
 
-// The equation of the abstractions of the sides.
-fn abstracted(alloc: Global, name: &Name, ty: &Ty, sides: &Equation<'_>) -> Result<Term, AllocError>
+/// The equation of the abstractions of the sides.
+pub(crate) fn abstracted(
+    alloc: Global,
+    name: &Name,
+    ty: &Ty,
+    sides: &Equation<'_>,
+) -> Result<Term, AllocError>
     ensures { IfOk result (λ t. t ≡ abstracted name.now ty.now (sides.now.ty.now, sides.now.left.now, sides.now.right.now)) }
 {
     let left = abstraction(alloc, name, ty, sides.left)?;

@@ -1,8 +1,9 @@
+//! The definitions of the logical constants.
 ghost use Rattle.std.specs.Prelude.{◌≡◌, codes, IfOk, IsTrue};
 ghost use Rattle.fp_term.specs.Names.{is_name};
 ghost use Rattle.fp_term.specs.Terms.{bound, app, abs};
 ghost use Rattle.fp_conclude.specs.Logic.{alpha, truth_type, predicate_type, binary_type, quantifier_type, equal, conjunction, implication, negation_constant, quantifier, true_constant, false_constant, connective, for_all};
-ghost use Rattle.fp_conclude.specs.Axioms.{true_is, and_is, imp_is, all_is, ex_is, or_is, false_is, not_is, connective_numbered};
+ghost use Rattle.fp_conclude.specs.Axioms.{true_is, and_is, imp_is, all_is, ex_is, or_is, false_is, not_is, definition_statement, connective_numbered};
 
 use crate::formula::{
     abstraction, alpha, binary_truth, conjunction, connective, false_constant, for_all,
@@ -11,6 +12,27 @@ use crate::formula::{
 use crate::logic::{apply, apply_both, equation, predicate_over, truth_type};
 use fp_term::Term;
 use std::alloc::{AllocError, Global};
+
+/// The constants of the start that are defined by equality alone, in the order of their definitions.
+#[derive(Clone, Copy)]
+pub enum LogicalConstant {
+    /// `T`
+    Truth,
+    /// `/\`
+    Conjunction,
+    /// `-->`
+    Implication,
+    /// `!`
+    Universal,
+    /// `?`
+    Existential,
+    /// `\/`
+    Disjunction,
+    /// `F`
+    Falsity,
+    /// `~`
+    Negation,
+}
 
 // The implication of two bound numbers.
 fn implied(alloc: Global, left: u32, right: u32) -> Result<Term, AllocError>
@@ -194,18 +216,36 @@ fn not_is(alloc: Global) -> Result<Term, AllocError>
     equation(alloc, &ty, &negation_constant(alloc)?, &negated(alloc)?)
 }
 
-/// The definition of the connective of that number: `T`, `/\`, `-->`, `!`, `?`, `\/`, `F`, `~`.
-pub fn connective_definition(alloc: Global, number: u32) -> Result<Term, AllocError>
-    ensures { IfOk result (λ t. t ≡ connective_numbered number) }
-{
-    match number {
-        1 => true_is(alloc),
-        2 => and_is(alloc),
-        3 => imp_is(alloc),
-        4 => all_is(alloc),
-        5 => ex_is(alloc),
-        6 => or_is(alloc),
-        7 => false_is(alloc),
-        _ => not_is(alloc),
+impl LogicalConstant {
+    /// The equation by which the constant is defined.
+    pub fn definition(self, alloc: Global) -> Result<Term, AllocError>
+        ensures { IfOk result (λ t. t ≡ definition_statement self) }
+    {
+        match self {
+            LogicalConstant::Truth => true_is(alloc),
+            LogicalConstant::Conjunction => and_is(alloc),
+            LogicalConstant::Implication => imp_is(alloc),
+            LogicalConstant::Universal => all_is(alloc),
+            LogicalConstant::Existential => ex_is(alloc),
+            LogicalConstant::Disjunction => or_is(alloc),
+            LogicalConstant::Falsity => false_is(alloc),
+            LogicalConstant::Negation => not_is(alloc),
+        }
+    }
+
+    /// The constant of that number, from 1.
+    pub fn numbered(number: u32) -> LogicalConstant
+        ensures { definition_statement result ≡ connective_numbered number }
+    {
+        match number {
+            1 => LogicalConstant::Truth,
+            2 => LogicalConstant::Conjunction,
+            3 => LogicalConstant::Implication,
+            4 => LogicalConstant::Universal,
+            5 => LogicalConstant::Existential,
+            6 => LogicalConstant::Disjunction,
+            7 => LogicalConstant::Falsity,
+            _ => LogicalConstant::Negation,
+        }
     }
 }

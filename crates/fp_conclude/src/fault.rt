@@ -1,3 +1,4 @@
+//! Why a rule gives no theorem.
 ghost use Rattle.std.specs.Prelude.{◌≡◌};
 ghost use Rattle.fp_term.specs.Types.{Typ};
 ghost use Rattle.fp_term.specs.Terms.{Tm};

@@ -1,3 +1,4 @@
+//! Types and formulas of the logic.
 ghost use Rattle.std.specs.Prelude.{◌≡◌, IfOk, IsTrue};
 ghost use Rattle.fp_term.specs.Names.{is_name};
 ghost use Rattle.fp_term.specs.Terms.{abs, constant};

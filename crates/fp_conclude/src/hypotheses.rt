@@ -1,3 +1,4 @@
+//! Lists of hypotheses without repeats, and the variables that are free in them.
 ghost use Rattle.std.specs.Prelude.{◌≡◌, [], ◌∷◌, ◌++◌, IfOk};
 ghost use Rattle.fp_conclude.specs.Hypotheses.{member, union, without, all_replaced, all_retyped_terms, occurs, occurs_in_any};
 

@@ -1,3 +1,4 @@
+//! Truth values, predicates and equations.
 ghost use Rattle.std.specs.Prelude.{◌≡◌, IfOk};
 ghost use Rattle.fp_term.specs.Names.{equality, truth};
 ghost use Rattle.fp_term.specs.Terms.{constant, app, abs};

@@ -1,3 +1,4 @@
+//! The parts of equations, redexes and types of functions.
 ghost use Rattle.std.specs.Prelude.{◌≡◌, Some, None, MatchOption};
 ghost use Rattle.std.specs.Option.{option_copied};
 ghost use Rattle.fp_term.specs.Names.{truth, equality};

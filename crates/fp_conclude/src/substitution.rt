@@ -1,3 +1,4 @@
+//! Instances by terms and by types.
 ghost use Rattle.std.specs.Prelude.{◌≡◌};
 ghost use Rattle.fp_conclude.specs.Outcomes.{Answers};
 ghost use Rattle.fp_conclude.specs.Rules.{inst_of, inst_ty_of};

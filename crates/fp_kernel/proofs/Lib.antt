@@ -6,4 +6,5 @@ pub mod Later
 pub mod Promised
 pub mod Sound
 pub mod Premises
+pub mod Started
 pub mod Unchecked

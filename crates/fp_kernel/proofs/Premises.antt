@@ -8,22 +8,20 @@ use Rattle.fp_conclude.specs.Outcomes.{gives}
 use Rattle.fp_conclude.specs.Rules.{trans_of, mk_comb_of, lam_of, eq_mp_of, inst_of, inst_ty_of}
 use Rattle.fp_kernel.specs.Definitions.{Def, Within}
 use Rattle.fp_kernel.specs.Start.{signature_of}
-use Rattle.fp_conclude.specs.Axioms.{axioms, axiom_numbered, connectives, connective_numbered}
-use Rattle.fp_kernel.specs.Derivability.{IsIn, first, later}
-use Rattle.fp_kernel.specs.Derivability.{Derives, antisym, axiom_of, connective_of}
+use Rattle.fp_kernel.specs.Derivability.{Derives, antisym}
 use Rattle.fp_kernel.specs.Theorems.{Theorem, IsTheorem, promise_union}
 use Rattle.fp_kernel.proofs.Later.{later_all, first_promises, second_promises}
 use Rattle.fp_kernel.proofs.Sound.{trans_sound, mk_comb_sound, lam_sound, eq_mp_sound, inst_sound, inst_ty_sound}
 
 -- a theorem over a longer list
-alone : {defs : List Def} (a : Theorem) (p : Tm) → Within a.defs defs → IsTheorem a → p ≡ a.concl → Derives defs a.promises a.hyps p
+pub alone : {defs : List Def} (a : Theorem) (p : Tm) → Within a.defs defs → IsTheorem a → p ≡ a.concl → Derives defs a.promises a.hyps p
 alone a p w d e = rw e (later_all w (λ x i. i) d)
 
 -- with another's promises after its own, and before them
-before : {defs : List Def} (a b : Theorem) (p : Tm) → Within a.defs defs → IsTheorem a → p ≡ a.concl → Derives defs (promise_union a.promises b.promises) a.hyps p
+pub before : {defs : List Def} (a b : Theorem) (p : Tm) → Within a.defs defs → IsTheorem a → p ≡ a.concl → Derives defs (promise_union a.promises b.promises) a.hyps p
 before a b p w d e = rw e (later_all w (first_promises a.promises b.promises) d)
 
-after : {defs : List Def} (a b : Theorem) (q : Tm) → Within b.defs defs → IsTheorem b → q ≡ b.concl → Derives defs (promise_union a.promises b.promises) b.hyps q
+pub after : {defs : List Def} (a b : Theorem) (q : Tm) → Within b.defs defs → IsTheorem b → q ≡ b.concl → Derives defs (promise_union a.promises b.promises) b.hyps q
 after a b q w d e = rw e (later_all w (second_promises a.promises b.promises) d)
 
 module _ {defs : List Def} (a b : Theorem) (p q c : Tm) (w : Within a.defs defs) (x : Within b.defs defs) (d : IsTheorem a) (e : IsTheorem b) (is : p ≡ a.concl) (is' : q ≡ b.concl) where
@@ -49,27 +47,3 @@ module _ {defs : List Def} (a : Theorem) (p c : Tm) (w : Within a.defs defs) (d 
 
   pub by_inst_ty : (pairs : List (List ℕ × Typ)) → inst_ty_of (signature_of defs) pairs p ≡ gives c → Derives defs a.promises (all_retyped_terms pairs a.hyps) c
   by_inst_ty pairs h = inst_ty_sound pairs p c h (alone a p w d is)
-
--- each number's axiom is one, and each number's connective
-choice_in : {xs : List Tm} {x y : Tm} (b : Bool) → IsIn x xs → IsIn y xs → IsIn (cond b x y) xs
-choice_in true i j = i
-choice_in false i j = j
-
-pub axiom_is : (n : ℕ) → IsIn (axiom_numbered n) axioms
-axiom_is n = choice_in (n == 1) first (choice_in (n == 2) (later first) (later (later first)))
-
-pub connective_is : (n : ℕ) → IsIn (connective_numbered n) connectives
-connective_is n =
-    choice_in (n == 1) first
-    (choice_in (n == 2) (later first)
-    (choice_in (n == 3) (later (later first))
-    (choice_in (n == 4) (later (later (later first)))
-    (choice_in (n == 5) (later (later (later (later first))))
-    (choice_in (n == 6) (later (later (later (later (later first)))))
-    (choice_in (n == 7) (later (later (later (later (later (later first)))))) (later (later (later (later (later (later (later first)))))))))))))
-
-pub by_axiom : (defs : List Def) (n : ℕ) → Derives defs [] [] (axiom_numbered n)
-by_axiom defs n = axiom_of (axiom_is n)
-
-pub by_connective : (defs : List Def) (n : ℕ) → Derives defs [] [] (connective_numbered n)
-by_connective defs n = connective_of (connective_is n)

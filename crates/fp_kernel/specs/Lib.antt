@@ -3,6 +3,7 @@ pub mod Start
 pub mod Derivability
 pub mod Conservative
 pub mod Theorems
+pub mod Known
 pub mod Codes
 pub mod Views
 pub mod Defining

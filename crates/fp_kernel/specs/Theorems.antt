@@ -12,10 +12,6 @@ pub record Theorem : Type 0 where
   pub hyps : List Tm
   pub concl : Tm
 
--- over a list of definitions, without hypotheses and promises
-abbrev pub without_premises : List Def → Tm → Theorem
-without_premises defs p = record { defs = defs; promises = []; hyps = []; concl = p }
-
 abbrev pub IsTheorem : Theorem → Type 0
 IsTheorem th = Derives th.defs th.promises th.hyps th.concl
 
@@ -33,6 +29,21 @@ ArePromises (p ∷ promises) = (promised p promises ≡ false) × ArePromises pr
 abbrev pub promise_union : List (ℕ × Tm) → List (ℕ × Tm) → List (ℕ × Tm)
 promise_union promises [] = promises
 promise_union promises (p ∷ more) = promise_union (if promised p promises then promises else promises ++ p ∷ []) more
+
+-- over a list of definitions, without hypotheses and promises
+abbrev pub plain : List Def → Tm → Theorem
+plain defs p = record { defs = defs; promises = []; hyps = []; concl = p }
+
+-- from itself alone
+abbrev pub from_itself : List Def → Tm → Theorem
+from_itself defs p = record { defs = defs; promises = []; hyps = p ∷ []; concl = p }
+
+-- with the hypotheses and the promises of a theorem, and of two
+abbrev pub by_one : List Def → Theorem → Tm → Theorem
+by_one defs a p = record { defs = defs; promises = a.promises; hyps = a.hyps; concl = p }
+
+abbrev pub by_both : List Def → Theorem → Theorem → Tm → Theorem
+by_both defs a b p = record { defs = defs; promises = promise_union a.promises b.promises; hyps = union a.hyps b.hyps; concl = p }
 
 -- the theorem of what was concluded
 abbrev pub stands : List Def → List (ℕ × Tm) → List Tm → Outcome Tm → Outcome Theorem

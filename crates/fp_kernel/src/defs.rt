@@ -7,7 +7,7 @@ ghost use Rattle.fp_conclude.specs.Logic.{equal};
 ghost use Rattle.fp_kernel.specs.Start.{signature_of};
 ghost use Rattle.fp_conclude.specs.Hypotheses.{IsSet};
 ghost use Rattle.fp_kernel.specs.Derivability.{Derives};
-ghost use Rattle.fp_kernel.specs.Theorems.{ArePromises, without_premises};
+ghost use Rattle.fp_kernel.specs.Theorems.{ArePromises, plain};
 ghost use Rattle.fp_kernel.specs.Conservative.{IsConservative, IsNewConstant};
 ghost use Rattle.fp_kernel.specs.Defining.{defining, defining_theorem, made, unless, not_closed, hidden_type, FaultIs, Defines, MadeUnlessMemory};
 
@@ -134,7 +134,7 @@ impl Defs {
     /// The theorem that is kept in the place, where there is one and it states just that over no definitions, without
     /// hypotheses and promises.
     pub fn kept(&self, place: usize, statement: &Term) -> Option<&Thm>
-        ensures { IfSome result (λ th. th.now ≡ without_premises [] statement.now) }
+        ensures { IfSome result (λ th. th.now ≡ plain [] statement.now) }
     {
         self.kept.find(place, statement)
     }

@@ -1,5 +1,5 @@
 ghost use Rattle.std.specs.Prelude.{◌≡◌, ◌<◌, [], length, IfOk, IfSome, IsTrue};
-ghost use Rattle.fp_kernel.specs.Theorems.{without_premises};
+ghost use Rattle.fp_kernel.specs.Theorems.{plain};
 
 use crate::thm::Thm;
 use fp_term::{Term, same};
@@ -24,7 +24,7 @@ impl Drop for Kept {
 
 // Does it state just that, over no definitions, without hypotheses and promises?
 fn states(theorem: &Thm, statement: &Term) -> bool
-    ensures { IsTrue result → theorem.now ≡ without_premises [] statement.now }
+    ensures { IsTrue result → theorem.now ≡ plain [] statement.now }
 {
     theorem.level() == 0
         && theorem.hyps().is_empty()
@@ -52,7 +52,7 @@ impl Kept {
 
     /// The theorem in the place, where it states just that over no definitions.
     pub fn find(&self, place: usize, statement: &Term) -> Option<&Thm>
-        ensures { IfSome result (λ th. th.now ≡ without_premises [] statement.now) }
+        ensures { IfSome result (λ th. th.now ≡ plain [] statement.now) }
     {
         let theorem = self.places.get(place)?.get()?;
         if states(theorem, statement) {

@@ -6,13 +6,17 @@ mod defs;
 mod fault;
 mod kept;
 mod known;
+mod over;
 mod promises;
 mod rules;
 mod start;
 mod thm;
+mod typing;
 
 pub use definition::{Definition, Definitions};
 pub use defs::Defs;
 pub use fault::DefFault;
-pub use fp_conclude::{RuleFault, equality_at, equation, predicate_over, truth_type};
+pub use fp_conclude::{
+    Axiom, LogicalConstant, RuleFault, equality_at, equation, predicate_over, truth_type,
+};
 pub use thm::Thm;

@@ -1,154 +1,27 @@
-ghost use Rattle.std.specs.Prelude.{◌≡◌, ◌≤◌, [], ◌∷◌, IfOk};
-ghost use Rattle.fp_term.specs.Types.{Typ};
-ghost use Rattle.fp_term.specs.Terms.{Tm};
-ghost use Rattle.fp_term.specs.Signatures.{IsWellTyped};
+//! The rules: each gives its theorem exactly where its shape holds.
+ghost use Rattle.std.specs.Prelude.{◌≤◌, [], ◌∷◌};
 ghost use Rattle.fp_conclude.specs.Logic.{truth_type, equal};
-ghost use Rattle.fp_conclude.specs.Hypotheses.{IsSet, union, without, all_replaced, all_retyped_terms};
+ghost use Rattle.fp_conclude.specs.Hypotheses.{union, without, all_replaced, all_retyped_terms};
 ghost use Rattle.fp_conclude.specs.Outcomes.{Answers, gives};
 ghost use Rattle.fp_conclude.specs.Rules.{refl_of, trans_of, mk_comb_of, lam_of, beta_of, assume_of, eq_mp_of, inst_of, inst_ty_of};
+ghost use Rattle.fp_conclude.specs.Axioms.{axiom_numbered, connective_numbered};
 ghost use Rattle.fp_kernel.specs.Definitions.{Within};
 ghost use Rattle.fp_kernel.specs.Start.{signature_of};
-ghost use Rattle.fp_conclude.specs.Axioms.{axiom_numbered, connective_numbered};
-ghost use Rattle.fp_kernel.specs.Derivability.{Derives};
-ghost use Rattle.fp_kernel.specs.Theorems.{promise_union, stands, from_one, from_two, from_both};
+ghost use Rattle.fp_kernel.specs.Theorems.{stands, from_one, from_two, from_both};
 
 use crate::defs::Defs;
-use crate::known::known_type;
-use crate::promises::{copy_promises, promise_union};
 use crate::thm::Thm;
-use fp_conclude::{
-    self, RuleFault, all_instances, all_retyped, connective_definition, equation, single,
-    truth_type, union, without,
-};
+use fp_conclude::{self, Axiom, LogicalConstant, RuleFault, all_instances, all_retyped, single};
 use fp_term::{Items, Name, Term, Ty, copy_all};
-use std::alloc::{AllocError, Global};
-
-// The hypotheses of the one theorem but the other's conclusion, and then the other's but the one's.
-fn remaining(alloc: Global, first: &Thm, second: &Thm) -> Result<Items<Term>, AllocError>
-    ensures value { IfOk result (λ hyps. hyps ≡ union (without second.now.concl first.now.hyps) (without first.now.concl second.now.hyps)) }
-    ensures set { IfOk result (λ hyps. IsSet hyps) }
-{
-    let left = without(alloc, second.concl(), first.hyps())?;
-    let right = without(alloc, first.concl(), second.hyps())?;
-    let hyps = union(alloc, left.as_slice(), right.as_slice())?;
-    Ok(hyps)
-}
-
-// `p = q`, for formulas.
-fn equivalence(alloc: Global, left: &Term, right: &Term) -> Result<Term, AllocError>
-    ensures { IfOk result (λ t. t ≡ equal truth_type left.now right.now) }
-{
-    let ty = truth_type(alloc)?;
-    equation(alloc, &ty, left, right)
-}
+use std::alloc::Global;
 
 impl Defs {
-    // The theorem without promises.
-    fn plain(&self, alloc: Global, hyps: Items<Term>, concl: Term) -> Result<Thm, AllocError>
-        requires derived { Derives self.now [] hyps concl }
-        requires set { IsSet hyps }
-        ensures { IfOk result (λ th. th ≡ record { defs = self.now; promises = []; hyps = hyps; concl = concl }) }
-    {
-        self.theorem(Items::new(alloc), hyps, concl)
-    }
-
-    // The theorem with the promises of another.
-    fn over_one(
-        &self,
-        alloc: Global,
-        given: &Thm,
-        hyps: Items<Term>,
-        concl: Term,
-    ) -> Result<Thm, AllocError>
-        requires derived { Derives self.now given.now.promises hyps concl }
-        requires set { IsSet hyps }
-        ensures { IfOk result (λ th. th ≡ record { defs = self.now; promises = given.now.promises; hyps = hyps; concl = concl }) }
-    {
-        let promises = copy_promises(alloc, given.promises())?;
-        self.theorem(promises, hyps, concl)
-    }
-
-    // The theorem with the promises of two others.
-    fn over_two(
-        &self,
-        alloc: Global,
-        first: &Thm,
-        second: &Thm,
-        hyps: Items<Term>,
-        concl: Term,
-    ) -> Result<Thm, AllocError>
-        requires derived { Derives self.now (promise_union first.now.promises second.now.promises) hyps concl }
-        requires set { IsSet hyps }
-        ensures { IfOk result (λ th. th ≡ record { defs = self.now; promises = promise_union first.now.promises second.now.promises; hyps = hyps; concl = concl }) }
-    {
-        let promises = promise_union(alloc, first.promises(), second.promises())?;
-        self.theorem(promises, hyps, concl)
-    }
-
-    // The theorem with the hypotheses and the promises of two others.
-    fn over_both(
-        &self,
-        alloc: Global,
-        first: &Thm,
-        second: &Thm,
-        concl: Term,
-    ) -> Result<Thm, AllocError>
-        requires { Derives self.now (promise_union first.now.promises second.now.promises) (union first.now.hyps second.now.hyps) concl }
-        ensures { IfOk result (λ th. th ≡ record { defs = self.now; promises = promise_union first.now.promises second.now.promises; hyps = union first.now.hyps second.now.hyps; concl = concl }) }
-    {
-        let hyps = union(alloc, first.hyps(), second.hyps())?;
-        self.over_two(alloc, first, second, hyps, concl)
-    }
-
     /// `t = t` (REFL).
     pub fn refl(&self, alloc: Global, term: &Term) -> Result<Thm, RuleFault>
         ensures { Answers result (stands self.now [] [] (refl_of (signature_of self.now) term.now)) }
     {
         let concl = fp_conclude::refl(alloc, self.signature(), term)?;
         Ok(self.plain(alloc, Items::new(alloc), concl)?)
-    }
-
-    /// `t = t`, for a term that is known to be well typed: nothing is checked.
-    pub fn refl_known(&self, alloc: Global, term: &Term) -> Result<Thm, AllocError>
-        requires { (s : Typ) × IsWellTyped (signature_of self.now) term.now s }
-        ensures { IfOk result (λ th. stands self.now [] [] (refl_of (signature_of self.now) term.now) ≡ gives th) }
-    {
-        let ty = known_type(alloc, term)?;
-        let concl = equation(alloc, &ty, term, term)?;
-        self.plain(alloc, Items::new(alloc), concl)
-    }
-
-    /// `s = u` from `s = t` and `t = u`. It has to be known that the rule gives something: nothing is compared.
-    pub fn trans_known(&self, alloc: Global, first: &Thm, second: &Thm) -> Result<Thm, AllocError>
-        requires first_within { Within first.now.defs self.now }
-        requires second_within { Within second.now.defs self.now }
-        requires given { (c : Tm) × (trans_of first.now.concl second.now.concl ≡ gives c) }
-        ensures { IfOk result (λ th. from_both self.now first.now second.now (trans_of first.now.concl second.now.concl) ≡ gives th) }
-    {
-        let concl = fp_conclude::trans_known(alloc, first.concl(), second.concl())?;
-        self.over_both(alloc, first, second, concl)
-    }
-
-    /// `f x = g y` from `f = g` and `x = y`. It has to be known that the rule gives something: nothing is compared.
-    pub fn mk_comb_known(&self, alloc: Global, first: &Thm, second: &Thm) -> Result<Thm, AllocError>
-        requires first_within { Within first.now.defs self.now }
-        requires second_within { Within second.now.defs self.now }
-        requires given { (c : Tm) × (mk_comb_of first.now.concl second.now.concl ≡ gives c) }
-        ensures { IfOk result (λ th. from_both self.now first.now second.now (mk_comb_of first.now.concl second.now.concl) ≡ gives th) }
-    {
-        let concl = fp_conclude::mk_comb_known(alloc, first.concl(), second.concl())?;
-        self.over_both(alloc, first, second, concl)
-    }
-
-    /// `q` from `p = q` and `p`. It has to be known that the rule gives something: nothing is compared.
-    pub fn eq_mp_known(&self, alloc: Global, first: &Thm, second: &Thm) -> Result<Thm, AllocError>
-        requires first_within { Within first.now.defs self.now }
-        requires second_within { Within second.now.defs self.now }
-        requires given { (c : Tm) × (eq_mp_of first.now.concl second.now.concl ≡ gives c) }
-        ensures { IfOk result (λ th. from_both self.now first.now second.now (eq_mp_of first.now.concl second.now.concl) ≡ gives th) }
-    {
-        let concl = fp_conclude::eq_mp_known(first.concl(), second.concl())?;
-        self.over_both(alloc, first, second, concl)
     }
 
     /// `s = u` from `s = t` and `t = u` (TRANS).
@@ -222,9 +95,7 @@ impl Defs {
         requires second_within { Within second.now.defs self.now }
         ensures { Answers result (from_two self.now first.now second.now (union (without second.now.concl first.now.hyps) (without first.now.concl second.now.hyps)) (gives (equal truth_type first.now.concl second.now.concl))) }
     {
-        let hyps = remaining(alloc, first, second)?;
-        let concl = equivalence(alloc, first.concl(), second.concl())?;
-        Ok(self.over_two(alloc, first, second, hyps, concl)?)
+        Ok(self.antisym_known(alloc, first, second)?)
     }
 
     /// The instance by terms for variables of their types, of the hypotheses too (INST). All pairs are put in at once;
@@ -264,8 +135,7 @@ impl Defs {
         requires last { number ≤ 3 }
         ensures { Answers result (stands self.now [] [] (gives (axiom_numbered number))) }
     {
-        let concl = fp_conclude::axiom(alloc, number)?;
-        Ok(self.plain(alloc, Items::new(alloc), concl)?)
+        Ok(self.axiom_known(alloc, Axiom::numbered(number))?)
     }
 
     /// The definition of the connective of that number: `T`, `/\`, `-->`, `!`, `?`, `\/`, `F`, `~`.
@@ -274,7 +144,6 @@ impl Defs {
         requires last { number ≤ 8 }
         ensures { Answers result (stands self.now [] [] (gives (connective_numbered number))) }
     {
-        let concl = connective_definition(alloc, number)?;
-        Ok(self.plain(alloc, Items::new(alloc), concl)?)
+        Ok(self.connective_known(alloc, LogicalConstant::numbered(number))?)
     }
 }

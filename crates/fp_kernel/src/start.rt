@@ -15,12 +15,7 @@ fn add_type(types: &mut Items<(Name, u32)>, name: Name, arity: u32) -> Result<()
     types.push((name, arity))
 }
 
-fn add_constant(
-    alloc: Global,
-    consts: &mut Consts,
-    name: &[u8],
-    ty: Ty,
-) -> Result<(), AllocError>
+fn add_constant(alloc: Global, consts: &mut Consts, name: &[u8], ty: Ty) -> Result<(), AllocError>
     requires { IsTrue (is_name name.now) }
     ensures { IfOk result (λ _. consts.new ≡ consts.old ++ (name.now, ty) ∷ []) }
 {
@@ -83,11 +78,7 @@ fn add_connectives(alloc: Global, consts: &mut Consts) -> Result<(), AllocError>
     add_constant(alloc, consts, b"not", negation)
 }
 
-fn add_quantifier(
-    alloc: Global,
-    consts: &mut Consts,
-    name: &[u8],
-) -> Result<(), AllocError>
+fn add_quantifier(alloc: Global, consts: &mut Consts, name: &[u8]) -> Result<(), AllocError>
     requires { IsTrue (is_name name.now) }
     ensures { IfOk result (λ _. consts.new ≡ consts.old ++ (name.now, quantifier_type alpha) ∷ []) }
 {

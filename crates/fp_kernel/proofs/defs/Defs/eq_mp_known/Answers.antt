@@ -1,6 +1,9 @@
-use Rattle.fp_kernel.proofs.Premises.{by_eq_mp}
+use Rattle.std.proofs.Common.{◌∙◌, ap}
+use Rattle.fp_conclude.specs.Shapes.{right}
+use Rattle.fp_kernel.proofs.Unchecked.{by_eq_mp}
 use Rattle.fp_kernel.proofs.defs.Defs.eq_mp_known.Goals as goal
 
 pub over_both-requires : goal.over_both-requires
 over_both-requires c =
-    by_eq_mp c.args.first.now c.args.second.now c.concl.result.now c.concl-2.result.now c.in_ok-concl.concl c.requires.first_within c.requires.second_within c.concl.ensures.derived c.concl-2.ensures.derived c.concl.ensures.value c.concl-2.ensures.value c.in_ok-concl.ensures
+    by_eq_mp c.args.first.now c.args.second.now c.concl.ensures.derived c.concl-premise.ensures.derived c.requires c.in_ok-concl.concl
+    (c.in_ok-concl.ensures ∙ c.right.ensures ∙ ap right c.concl.ensures.value)

@@ -1,6 +1,7 @@
-use Rattle.fp_kernel.proofs.Premises.{by_trans}
+use Rattle.fp_kernel.proofs.Unchecked.{by_trans}
 use Rattle.fp_kernel.proofs.defs.Defs.trans_known.Goals as goal
 
 pub over_both-requires : goal.over_both-requires
 over_both-requires c =
-    by_trans c.args.first.now c.args.second.now c.concl.result.now c.concl-2.result.now c.in_ok-concl.concl c.requires.first_within c.requires.second_within c.concl.ensures.derived c.concl-2.ensures.derived c.concl.ensures.value c.concl-2.ensures.value c.in_ok-concl.ensures
+    by_trans c.args.first.now c.args.second.now c.concl.ensures.derived c.concl-2.ensures.derived c.requires c.in_ok-concl.concl
+    (rw (c.concl.ensures.value, c.concl-2.ensures.value) at c.in_ok-concl.ensures)

@@ -1,5 +1,5 @@
 use Rattle.fp_conclude.proofs.Sets.{union_set, without_set}
-use Rattle.fp_kernel.proofs.rules.remaining.Goals as goal
+use Rattle.fp_kernel.proofs.over.remaining.Goals as goal
 
 pub returns-clause-set : goal.returns-clause-set
 returns-clause-set c =

@@ -1,6 +1,0 @@
-use Rattle.fp_kernel.proofs.Premises.{by_connective}
-use Rattle.fp_kernel.proofs.defs.Defs.connective.Goals as goal
-
-pub plain-requires-clause-derived : goal.plain-requires-clause-derived
-plain-requires-clause-derived c =
-    rw (c.new.ensures, c.in_ok-concl.ensures) (by_connective c.args.self.now c.args.number)
