@@ -11,19 +11,19 @@ ghost use Rattle.fp_disjunction.specs.Forms.{disjunction};
 ghost use Rattle.fp_disjunction.specs.Derived.{either_way, cases_from};
 ghost use Rattle.fp_forms.specs.Schemas.{p_variable, q_variable};
 ghost use Rattle.fp_disjunction.specs.Schemas.{each_way, all_ways};
-ghost use Rattle.fp_logic.specs.Steps.{plain, by_one, by_both, without_one};
+ghost use Rattle.fp_kernel.specs.Theorems.{plain, by_one, by_both};
+ghost use Rattle.fp_logic.specs.Steps.{without_one};
 ghost use Rattle.fp_disjunction.specs.Steps.{IsDisjunction};
 
 use crate::falsity::{always_at, universal};
 use crate::parts::disjunction_parts;
-use fp_conclude::{RuleFault, differ};
-use fp_forms::shapes::{self, argument_in};
+use fp_conclude::{LogicalConstant, RuleFault, differ};
+use fp_conclude::argument_in;
 use fp_kernel::{Defs, Thm};
 use fp_logic::choosing::established;
 use fp_logic::holding::convert;
 use fp_logic::implications::{disch_known, mp_known};
 use fp_logic::instances::instance;
-use fp_logic::steps::{trans_known, connective_known, beta_known};
 use fp_logic::unfolding::unfold_twice;
 use fp_term::{Term, same};
 use std::alloc::{AllocError, Global};
@@ -32,7 +32,7 @@ use std::alloc::{AllocError, Global};
 fn quantified_schema(alloc: Global, defs: &Defs) -> Result<Thm, AllocError>
     ensures { IfOk result (λ th. th ≡ plain defs.now (disjunction_is_for_all p_variable q_variable)) }
 {
-    let meaning = connective_known(alloc, defs, 6)?;
+    let meaning = defs.connective_known(alloc, LogicalConstant::Disjunction)?;
     unfold_twice(alloc, defs, &meaning)
 }
 
@@ -41,9 +41,9 @@ fn disjunction_schema(alloc: Global, defs: &Defs) -> Result<Thm, AllocError>
     ensures { IfOk result (λ th. th ≡ plain defs.now (disjunction_is p_variable q_variable)) }
 {
     let quantified = quantified_schema(alloc, defs)?;
-    let predicate = argument_in(shapes::right(quantified.concl()));
+    let predicate = argument_in(fp_conclude::right(quantified.concl()));
     let universal = universal(alloc, defs, predicate)?;
-    trans_known(alloc, defs, &quantified, &universal)
+    defs.trans_known(alloc, &quantified, &universal)
 }
 
 /// What a disjunction says.
@@ -93,7 +93,7 @@ pub fn ways(
     ensures { IfOk result (λ th. th ≡ by_one defs.now a.now (each_way left.now right.now term.now)) }
 {
     let against = ways_at(alloc, defs, a, left, right, term)?;
-    let equation = beta_known(alloc, defs, shapes::left(against.concl()))?;
+    let equation = defs.beta_known(alloc, fp_conclude::left(against.concl()))?;
     established(alloc, defs, &against, &equation)
 }
 

@@ -7,20 +7,18 @@ ghost use Rattle.fp_conclude.specs.Outcomes.{Answers};
 ghost use Rattle.fp_kernel.specs.Definitions.{Within};
 ghost use Rattle.fp_kernel.specs.Derivability.{IsFormula};
 ghost use Rattle.fp_kernel.specs.Start.{signature_of};
-ghost use Rattle.fp_kernel.specs.Theorems.{from_one};
+ghost use Rattle.fp_kernel.specs.Theorems.{from_one, plain, by_one};
 ghost use Rattle.fp_disjunction.specs.Derived.{false_elim_of};
 ghost use Rattle.fp_forms.specs.Schemas.{identity};
 ghost use Rattle.fp_disjunction.specs.Schemas.{always_true, universal_is};
-ghost use Rattle.fp_forms.specs.Shapes.{left};
-ghost use Rattle.fp_logic.specs.Steps.{plain, by_one};
+ghost use Rattle.fp_conclude.specs.Shapes.{left};
 
-use fp_conclude::{RuleFault, apply, false_constant, truth_type};
+use fp_conclude::{LogicalConstant, RuleFault, apply, false_constant, truth_type};
 use fp_forms::identity;
 use fp_kernel::{Defs, Thm};
 use fp_logic::choosing::established;
 use fp_logic::equations::unfold;
 use fp_logic::holding::convert;
-use fp_logic::steps::{trans_known, connective_known, given, refl_known, beta_known};
 use fp_term::{Name, Term, Ty, same};
 use std::alloc::{AllocError, Global};
 
@@ -36,9 +34,9 @@ fn truth_for_alpha(alloc: Global) -> Result<(Name, Ty), AllocError>
 fn universal_schema(alloc: Global, defs: &Defs) -> Result<Thm, AllocError>
     ensures { IfOk result (λ th. th ≡ plain defs.now universal_is) }
 {
-    let meaning = connective_known(alloc, defs, 4)?;
+    let meaning = defs.connective_known(alloc, LogicalConstant::Universal)?;
     let pairs = [truth_for_alpha(alloc)?];
-    given(defs.inst_ty(alloc, &meaning, &pairs))
+    defs.inst_ty_known(alloc, &meaning, &pairs)
 }
 
 /// `all P = (P = (%x. T))`, for a predicate on formulas.
@@ -47,7 +45,7 @@ pub fn universal(alloc: Global, defs: &Defs, predicate: &Term) -> Result<Thm, Al
     ensures { IfOk result (λ th. th ≡ plain defs.now (equal truth_type (app (quantifier (codes "all") truth_type) predicate.now) (always_true predicate.now))) }
 {
     let schema = universal_schema(alloc, defs)?;
-    let own = refl_known(alloc, defs, predicate)?;
+    let own = defs.refl_known(alloc, predicate)?;
     unfold(alloc, defs, &schema, &own)
 }
 
@@ -63,9 +61,9 @@ fn universal_identity(alloc: Global, defs: &Defs) -> Result<Thm, AllocError>
 fn false_meaning(alloc: Global, defs: &Defs) -> Result<Thm, AllocError>
     ensures { IfOk result (λ th. th ≡ plain defs.now (equal truth_type false_constant (always_true identity))) }
 {
-    let meaning = connective_known(alloc, defs, 7)?;
+    let meaning = defs.connective_known(alloc, LogicalConstant::Falsity)?;
     let universal = universal_identity(alloc, defs)?;
-    trans_known(alloc, defs, &meaning, &universal)
+    defs.trans_known(alloc, &meaning, &universal)
 }
 
 /// `P t = T` from `P = (%x. T)`.
@@ -74,7 +72,7 @@ pub fn always_at(alloc: Global, defs: &Defs, th: &Thm, term: &Term) -> Result<Th
     requires formula { IsFormula (signature_of defs.now) term.now }
     ensures { IfOk result (λ a. a ≡ by_one defs.now th.now (equal truth_type (app (left th.now.concl) term.now) true_constant)) }
 {
-    let own = refl_known(alloc, defs, term)?;
+    let own = defs.refl_known(alloc, term)?;
     unfold(alloc, defs, th, &own)
 }
 
@@ -85,7 +83,7 @@ fn identity_at(alloc: Global, defs: &Defs, term: &Term) -> Result<Thm, AllocErro
 {
     let function = identity(alloc)?;
     let redex = apply(alloc, &function, term)?;
-    beta_known(alloc, defs, &redex)
+    defs.beta_known(alloc, &redex)
 }
 
 // `(%p. p) = (%x. T)` from `F`.

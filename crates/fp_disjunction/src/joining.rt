@@ -5,14 +5,13 @@ ghost use Rattle.fp_conclude.specs.Outcomes.{Answers};
 ghost use Rattle.fp_kernel.specs.Definitions.{Within};
 ghost use Rattle.fp_kernel.specs.Derivability.{IsFormula};
 ghost use Rattle.fp_kernel.specs.Start.{signature_of};
-ghost use Rattle.fp_kernel.specs.Theorems.{from_one};
+ghost use Rattle.fp_kernel.specs.Theorems.{from_one, plain, from_itself, by_one};
 ghost use Rattle.fp_disjunction.specs.Derived.{disj1_of, disj2_of};
 ghost use Rattle.fp_disjunction.specs.Equations.{disjunction_is, true_for_all_r, or_is_itself, or_of_is_itself, or_of_truth_is, truth_first_is, truth_second_is};
 ghost use Rattle.fp_disjunction.specs.Forms.{disjunction};
 ghost use Rattle.fp_forms.specs.Schemas.{q_variable, held};
 ghost use Rattle.fp_disjunction.specs.Schemas.{r_variable, each_way, all_ways, always_true};
-ghost use Rattle.fp_forms.specs.Shapes.{left, right};
-ghost use Rattle.fp_logic.specs.Steps.{plain, from_itself, by_one};
+ghost use Rattle.fp_conclude.specs.Shapes.{left, right};
 ghost use Rattle.fp_disjunction.specs.Steps.{without_both};
 
 use crate::disjunctions::disjunction_meaning;
@@ -23,7 +22,6 @@ use fp_kernel::{Defs, Thm};
 use fp_logic::holding::{fold, hold, truth_itself};
 use fp_logic::implications::{disch_known, mp_known};
 use fp_logic::instances::instance_of;
-use fp_logic::steps::{assume_known, mk_comb_known, given, refl_known, eq_mp_known};
 use fp_logic::truths::eqt_known;
 use fp_term::{Name, Term};
 use std::alloc::{AllocError, Global};
@@ -59,7 +57,7 @@ fn reached(alloc: Global, defs: &Defs, term: &Term) -> Result<Thm, AllocError>
     requires { term.now ≡ implication true_constant r_variable }
     ensures { IfOk result (λ th. th ≡ by_one defs.now (from_itself defs.now (implication true_constant r_variable)) r_variable) }
 {
-    let itself = assume_known(alloc, defs, term)?;
+    let itself = defs.assume_known(alloc, term)?;
     let truth = truth_itself(alloc, defs)?;
     mp_known(alloc, defs, &itself, &truth)
 }
@@ -137,7 +135,7 @@ fn abstracted(alloc: Global, defs: &Defs, th: &Thm) -> Result<Thm, AllocError>
 {
     let name = Name::of(alloc, b"r")?;
     let ty = truth_type(alloc)?;
-    given(defs.lam(alloc, &name, &ty, th))
+    defs.lam_known(alloc, &name, &ty, th)
 }
 
 // `(%r. p) = (%r. T)` from `p` without hypotheses, for the variable `r`.
@@ -207,7 +205,7 @@ fn own_or(alloc: Global, defs: &Defs) -> Result<Thm, AllocError>
     ensures { IfOk result (λ th. th ≡ plain defs.now or_is_itself) }
 {
     let or = connective(alloc, b"or")?;
-    refl_known(alloc, defs, &or)
+    defs.refl_known(alloc, &or)
 }
 
 // `or T = or p` from `T = p`.
@@ -218,7 +216,7 @@ fn or_replaced(alloc: Global, defs: &Defs, th: &Thm) -> Result<Thm, AllocError>
     let _hyps = th.hyps();
     let _promises = th.promises();
     let or = own_or(alloc, defs)?;
-    mk_comb_known(alloc, defs, &or, th)
+    defs.mk_comb_known(alloc, &or, th)
 }
 
 // `(T \/ t) = (p \/ t)` from `T = p`.
@@ -228,8 +226,8 @@ fn first_replaced(alloc: Global, defs: &Defs, th: &Thm, term: &Term) -> Result<T
     ensures { IfOk result (λ e. e ≡ by_one defs.now th.now (truth_first_is (right th.now.concl) term.now)) }
 {
     let once = or_replaced(alloc, defs, th)?;
-    let own = refl_known(alloc, defs, term)?;
-    mk_comb_known(alloc, defs, &once, &own)
+    let own = defs.refl_known(alloc, term)?;
+    defs.mk_comb_known(alloc, &once, &own)
 }
 
 // `or t = or t`
@@ -240,7 +238,7 @@ fn own_or_at(alloc: Global, defs: &Defs, term: &Term) -> Result<Thm, AllocError>
 {
     let or = connective(alloc, b"or")?;
     let applied = apply(alloc, &or, term)?;
-    refl_known(alloc, defs, &applied)
+    defs.refl_known(alloc, &applied)
 }
 
 // `(t \/ T) = (t \/ p)` from `T = p`.
@@ -252,7 +250,7 @@ fn second_replaced(alloc: Global, defs: &Defs, th: &Thm, term: &Term) -> Result<
     let _hyps = th.hyps();
     let _promises = th.promises();
     let once = own_or_at(alloc, defs, term)?;
-    mk_comb_known(alloc, defs, &once, th)
+    defs.mk_comb_known(alloc, &once, th)
 }
 
 // `(T \/ t) = (p \/ t)` from `p`, for a formula `t`.
@@ -301,7 +299,7 @@ pub fn disj1_known(alloc: Global, defs: &Defs, a: &Thm, term: &Term) -> Result<T
 {
     let equation = first_equation(alloc, defs, a, term)?;
     let truth = first_truth(alloc, defs, term)?;
-    eq_mp_known(alloc, defs, &equation, &truth)
+    defs.eq_mp_known(alloc, &equation, &truth)
 }
 
 /// `t \/ p` from `p`, for a formula `t`.
@@ -312,7 +310,7 @@ pub fn disj2_known(alloc: Global, defs: &Defs, term: &Term, a: &Thm) -> Result<T
 {
     let equation = second_equation(alloc, defs, term, a)?;
     let truth = second_truth(alloc, defs, term)?;
-    eq_mp_known(alloc, defs, &equation, &truth)
+    defs.eq_mp_known(alloc, &equation, &truth)
 }
 
 /// `p \/ t` from `p`.

@@ -5,24 +5,23 @@ ghost use Rattle.fp_conclude.specs.Outcomes.{Answers};
 ghost use Rattle.fp_kernel.specs.Definitions.{Within};
 ghost use Rattle.fp_kernel.specs.Derivability.{IsFormula};
 ghost use Rattle.fp_kernel.specs.Start.{signature_of};
-ghost use Rattle.fp_kernel.specs.Theorems.{from_one};
+ghost use Rattle.fp_kernel.specs.Theorems.{from_one, plain, from_itself, by_one};
 ghost use Rattle.fp_disjunction.specs.Derived.{eqf_of, not_intro_of, not_elim_of};
 ghost use Rattle.fp_forms.specs.Schemas.{p_variable};
-ghost use Rattle.fp_forms.specs.Shapes.{left, right};
-ghost use Rattle.fp_logic.specs.Steps.{plain, from_itself, by_one, IsImplication};
+ghost use Rattle.fp_conclude.specs.Shapes.{left, right};
+ghost use Rattle.fp_logic.specs.Steps.{IsImplication};
 ghost use Rattle.fp_disjunction.specs.Steps.{IsNegation};
 
 use crate::falsity::{false_elim_known, is_false};
 use crate::parts::negated;
-use fp_conclude::{RuleFault, conjunction, false_constant};
-use fp_forms::{implication_parts, p_variable, shapes};
+use fp_conclude::{LogicalConstant, RuleFault, conjunction, false_constant};
+use fp_forms::{implication_parts, p_variable};
 use fp_kernel::{Defs, Thm};
 use fp_logic::choosing::conjunct;
 use fp_logic::equations::{turn, unfold};
 use fp_logic::holding::{convert, fold, truth_equality};
 use fp_logic::implications::implied_from;
 use fp_logic::instances::instance;
-use fp_logic::steps::{assume_known, connective_known, antisym_known, refl_known};
 use fp_logic::unfolding::own_p;
 use fp_term::Term;
 use std::alloc::{AllocError, Global};
@@ -31,7 +30,7 @@ use std::alloc::{AllocError, Global};
 fn negation_schema(alloc: Global, defs: &Defs) -> Result<Thm, AllocError>
     ensures { IfOk result (λ th. th ≡ plain defs.now (equal truth_type (negation p_variable) (implication p_variable false_constant))) }
 {
-    let meaning = connective_known(alloc, defs, 8)?;
+    let meaning = defs.connective_known(alloc, LogicalConstant::Negation)?;
     let own = own_p(alloc, defs)?;
     unfold(alloc, defs, &meaning, &own)
 }
@@ -76,7 +75,7 @@ fn falsity_from(
     requires falsity { falsity.now ≡ false_constant }
     ensures { IfOk result (λ th. th ≡ by_one defs.now (from_itself defs.now (conjunction p_variable false_constant)) false_constant) }
 {
-    let itself = assume_known(alloc, defs, both)?;
+    let itself = defs.assume_known(alloc, both)?;
     conjunct(alloc, defs, false, &itself, term, falsity)
 }
 
@@ -86,7 +85,7 @@ fn from_falsity(alloc: Global, defs: &Defs, both: &Term, falsity: &Term) -> Resu
     requires falsity { falsity.now ≡ false_constant }
     ensures { IfOk result (λ th. th ≡ by_one defs.now (from_itself defs.now false_constant) (conjunction p_variable false_constant)) }
 {
-    let itself = assume_known(alloc, defs, falsity)?;
+    let itself = defs.assume_known(alloc, falsity)?;
     false_elim_known(alloc, defs, both, &itself)
 }
 
@@ -105,7 +104,7 @@ fn contradiction_of(
 {
     let first = from_falsity(alloc, defs, both, falsity)?;
     let second = falsity_from(alloc, defs, both, term, falsity)?;
-    antisym_known(alloc, defs, &first, &second)
+    defs.antisym_known(alloc, &first, &second)
 }
 
 // `(p /\ F) = F`, for the variable.
@@ -144,7 +143,7 @@ fn matched(alloc: Global, defs: &Defs, first: &Thm, second: &Thm) -> Result<Thm,
     ensures { IfOk result (λ th. th ≡ by_one defs.now first.now (equal truth_type (right first.now.concl) (right second.now.concl))) }
 {
     let equality = truth_equality(alloc, defs)?;
-    let own = refl_known(alloc, defs, shapes::left(first.concl()))?;
+    let own = defs.refl_known(alloc, fp_conclude::left(first.concl()))?;
     turn(alloc, defs, &equality, first, second, &own)
 }
 

@@ -4,18 +4,18 @@ ghost use Rattle.fp_term.specs.Terms.{app};
 ghost use Rattle.fp_conclude.specs.Logic.{truth_type, binary_type, equal, true_constant};
 ghost use Rattle.fp_kernel.specs.Derivability.{IsFormula};
 ghost use Rattle.fp_kernel.specs.Start.{signature_of};
-ghost use Rattle.fp_forms.specs.Shapes.{left, right, IsEquationFrom};
-ghost use Rattle.fp_logic.specs.Steps.{plain, by_one, by_both, choice_schema, IsConjunction};
+ghost use Rattle.fp_conclude.specs.Shapes.{left, right, IsEquationFrom};
+ghost use Rattle.fp_kernel.specs.Theorems.{plain, by_one, by_both};
+ghost use Rattle.fp_logic.specs.Steps.{choice_schema, IsConjunction};
 ghost use Rattle.fp_forms.specs.Schemas.{p_variable, q_variable, both_true, chooser, chosen, chosen_from, choice};
 
 use crate::equations::unfold;
 use crate::holding::{convert, establish};
 use crate::instances::instance;
 use crate::lemmas::lemma_at;
-use crate::steps::{trans_known, mk_comb_known, refl_known, beta_known};
 use crate::unfolding::{conjunction_meaning, own_q};
 use fp_conclude::{apply, true_constant};
-use fp_forms::shapes::left;
+use fp_conclude::left;
 use fp_forms::{Lemma, applying_variables, chooser, p_variable};
 use fp_kernel::{Defs, Thm};
 use fp_term::Term;
@@ -28,7 +28,7 @@ fn passed(alloc: Global, defs: &Defs, first: bool, by: &Term) -> Result<Thm, All
 {
     let function = applying_variables(alloc)?;
     let redex = apply(alloc, &function, by)?;
-    beta_known(alloc, defs, &redex)
+    defs.beta_known(alloc, &redex)
 }
 
 // `c p = (%y. x)`, for a chooser `c`, with `p` or `y` for `x`.
@@ -38,7 +38,7 @@ fn chosen_once(alloc: Global, defs: &Defs, first: bool, by: &Term) -> Result<Thm
 {
     let term = p_variable(alloc)?;
     let redex = apply(alloc, by, &term)?;
-    beta_known(alloc, defs, &redex)
+    defs.beta_known(alloc, &redex)
 }
 
 // `c p q = x`, for the chooser `c`, with `p` or `q` for `x`.
@@ -58,7 +58,7 @@ fn choice_schema_by(alloc: Global, defs: &Defs, first: bool, by: &Term) -> Resul
 {
     let passed = passed(alloc, defs, first, by)?;
     let twice = chosen_twice(alloc, defs, first, by)?;
-    trans_known(alloc, defs, &passed, &twice)
+    defs.trans_known(alloc, &passed, &twice)
 }
 
 /// `(%f. f p q) c = x`, for the chooser `c`, with `p` or `q` for `x`.
@@ -74,7 +74,7 @@ fn own_chooser(alloc: Global, defs: &Defs, first: bool) -> Result<Thm, AllocErro
     ensures { IfOk result (λ th. th ≡ plain defs.now (equal (binary_type truth_type truth_type) (chooser first) (chooser first))) }
 {
     let by = chooser(alloc, first)?;
-    refl_known(alloc, defs, &by)
+    defs.refl_known(alloc, &by)
 }
 
 // `(%f. f l r) = (%f. f T T)` from `l /\ r`.
@@ -106,7 +106,7 @@ fn choices(
 {
     let both = both_hold(alloc, defs, a, left, right)?;
     let own = own_chooser(alloc, defs, first)?;
-    mk_comb_known(alloc, defs, &both, &own)
+    defs.mk_comb_known(alloc, &both, &own)
 }
 
 // `(%f. f l r) c = x`, for the chooser `c`, by what is derived for variables.
@@ -154,7 +154,7 @@ pub fn established(
     requires equation { IsEquationFrom truth_type (left against.now.concl) equation.now.concl }
     ensures { IfOk result (λ th. th ≡ by_both defs.now against.now equation.now (right equation.now.concl)) }
 {
-    let own = refl_known(alloc, defs, left(against.concl()))?;
+    let own = defs.refl_known(alloc, left(against.concl()))?;
     establish(alloc, defs, against, equation, &own)
 }
 

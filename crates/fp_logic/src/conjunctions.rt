@@ -3,16 +3,15 @@ ghost use Rattle.std.specs.Prelude.{◌≡◌, codes, IfOk};
 ghost use Rattle.fp_conclude.specs.Logic.{truth_type, binary_type, equal, true_constant, connective, conjunction};
 ghost use Rattle.fp_conclude.specs.Outcomes.{Answers, gives};
 ghost use Rattle.fp_kernel.specs.Definitions.{Within};
-ghost use Rattle.fp_kernel.specs.Theorems.{from_one, from_both};
+ghost use Rattle.fp_kernel.specs.Theorems.{from_one, from_both, plain, by_one, by_both};
 ghost use Rattle.fp_logic.specs.Derived.{conj1_of, conj2_of};
 ghost use Rattle.fp_forms.specs.Schemas.{held};
-ghost use Rattle.fp_forms.specs.Shapes.{right};
-ghost use Rattle.fp_logic.specs.Steps.{plain, by_one, by_both, IsConjunction};
+ghost use Rattle.fp_conclude.specs.Shapes.{right};
+ghost use Rattle.fp_logic.specs.Steps.{IsConjunction};
 
 use crate::choosing::conjunct;
 use crate::holding::hold;
 use crate::lemmas::recalled;
-use crate::steps::{mk_comb_known, refl_known, eq_mp_known};
 use fp_conclude::{RuleFault, connective};
 use fp_forms::{Lemma, conjunction_parts};
 use fp_kernel::{Defs, Thm};
@@ -25,7 +24,7 @@ fn own_and(alloc: Global, defs: &Defs) -> Result<Thm, AllocError>
     ensures { IfOk result (λ th. th ≡ plain defs.now (equal (binary_type truth_type truth_type) (connective (codes "and")) (connective (codes "and")))) }
 {
     let and = connective(alloc, b"and")?;
-    refl_known(alloc, defs, &and)
+    defs.refl_known(alloc, &and)
 }
 
 // `(T /\ T) = (p /\ q)` from `T = p` and `T = q`.
@@ -37,8 +36,8 @@ fn conjoined_sides(alloc: Global, defs: &Defs, first: &Thm, second: &Thm) -> Res
     let _hyps = first.hyps();
     let _promises = first.promises();
     let own = own_and(alloc, defs)?;
-    let once = mk_comb_known(alloc, defs, &own, first)?;
-    mk_comb_known(alloc, defs, &once, second)
+    let once = defs.mk_comb_known(alloc, &own, first)?;
+    defs.mk_comb_known(alloc, &once, second)
 }
 
 // `(T /\ T) = (p /\ q)` from `p` and `q`.
@@ -58,7 +57,7 @@ fn conclude_from(alloc: Global, defs: &Defs, th: &Thm) -> Result<Thm, AllocError
     ensures { IfOk result (λ p. p ≡ by_one defs.now th.now (right th.now.concl)) }
 {
     let truths = recalled(alloc, defs, Lemma::Truths)?;
-    eq_mp_known(alloc, defs, th, &truths)
+    defs.eq_mp_known(alloc, th, &truths)
 }
 
 /// `p /\ q` from `p` and `q`.

@@ -7,16 +7,15 @@ ghost use Rattle.fp_kernel.specs.Start.{signature_of};
 ghost use Rattle.fp_forms.specs.Lemmas.{equivalent, exchanged, statement_of};
 ghost use Rattle.fp_forms.specs.declared.lemma.Lemma.TheVariants.{Truthful, Untrue, Truths, Choice, Turned, Folded};
 ghost use Rattle.fp_forms.specs.Schemas.{p_variable, q_variable, both_true, choice, chosen};
-ghost use Rattle.fp_logic.specs.Steps.{plain, from_itself, by_one};
+ghost use Rattle.fp_kernel.specs.Theorems.{plain, from_itself, by_one};
 
 use crate::choosing::{choice_schema, truth_choice};
 use crate::equations::sym_known;
 use crate::holding::{fold, held_schema, truth_equality, truth_itself};
 use crate::instances::instance;
-use crate::steps::{assume_known, trans_known, mk_comb_known, antisym_known, refl_known};
 use crate::unfolding::{conjunction_schema, implication_schema};
 use fp_conclude::{true_constant, truth_type};
-use fp_forms::shapes::left;
+use fp_conclude::left;
 use fp_forms::{
     Lemma, applying_truths, chosen, conjunction_of_variables, equivalent, p_variable, q_variable,
 };
@@ -31,7 +30,7 @@ fn turned_round(alloc: Global, defs: &Defs, left: &Term, right: &Term) -> Result
 {
     let ty = truth_type(alloc)?;
     let equation = equivalent(alloc, left, right)?;
-    let itself = assume_known(alloc, defs, &equation)?;
+    let itself = defs.assume_known(alloc, &equation)?;
     sym_known(alloc, defs, &itself, &ty, left)
 }
 
@@ -43,7 +42,7 @@ fn exchange_schema(alloc: Global, defs: &Defs) -> Result<Thm, AllocError>
     let right = q_variable(alloc)?;
     let first = turned_round(alloc, defs, &right, &left)?;
     let second = turned_round(alloc, defs, &left, &right)?;
-    antisym_known(alloc, defs, &first, &second)
+    defs.antisym_known(alloc, &first, &second)
 }
 
 // `(l = r) = (r = l)`
@@ -71,7 +70,7 @@ fn truthful_schema(alloc: Global, defs: &Defs) -> Result<Thm, AllocError>
 {
     let held = held_schema(alloc, defs)?;
     let exchange = truth_exchange(alloc, defs)?;
-    trans_known(alloc, defs, &held, &exchange)
+    defs.trans_known(alloc, &held, &exchange)
 }
 
 // `(p = T) = p`
@@ -98,7 +97,7 @@ fn own_application(alloc: Global, defs: &Defs) -> Result<Thm, AllocError>
     ensures { IfOk result (λ th. th ≡ plain defs.now (both_true true_constant true_constant)) }
 {
     let term = applying_truths(alloc)?;
-    refl_known(alloc, defs, &term)
+    defs.refl_known(alloc, &term)
 }
 
 // `T /\ T`
@@ -116,9 +115,9 @@ fn choices_by(alloc: Global, defs: &Defs, first: bool, schema: &Thm) -> Result<T
     ensures { IfOk result (λ th. th ≡ plain defs.now (equivalent (equivalent (choice first p_variable q_variable) (choice first true_constant true_constant)) (equivalent (chosen first p_variable q_variable) true_constant))) }
 {
     let equality = truth_equality(alloc, defs)?;
-    let applied = mk_comb_known(alloc, defs, &equality, schema)?;
+    let applied = defs.mk_comb_known(alloc, &equality, schema)?;
     let truth = truth_choice(alloc, defs, schema, first)?;
-    mk_comb_known(alloc, defs, &applied, &truth)
+    defs.mk_comb_known(alloc, &applied, &truth)
 }
 
 // `(x = T) = x`, for `p` or `q`.
@@ -137,7 +136,7 @@ fn choice_lemma(alloc: Global, defs: &Defs, first: bool) -> Result<Thm, AllocErr
     let schema = choice_schema(alloc, defs, first)?;
     let choices = choices_by(alloc, defs, first, &schema)?;
     let untrue = untrue_chosen(alloc, defs, first)?;
-    trans_known(alloc, defs, &choices, &untrue)
+    defs.trans_known(alloc, &choices, &untrue)
 }
 
 // `((p /\ q) = p) = (p = (p /\ q))`
@@ -155,7 +154,7 @@ fn turned_schema(alloc: Global, defs: &Defs) -> Result<Thm, AllocError>
 {
     let implied = implication_schema(alloc, defs)?;
     let exchange = implied_exchange(alloc, defs)?;
-    trans_known(alloc, defs, &implied, &exchange)
+    defs.trans_known(alloc, &implied, &exchange)
 }
 
 // `((p /\ q) = p) = (p --> q)`

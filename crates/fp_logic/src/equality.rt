@@ -8,13 +8,11 @@ ghost use Rattle.fp_conclude.specs.Logic.{equal};
 ghost use Rattle.fp_conclude.specs.Outcomes.{Answers};
 ghost use Rattle.fp_kernel.specs.Definitions.{Within};
 ghost use Rattle.fp_kernel.specs.Start.{signature_of};
-ghost use Rattle.fp_kernel.specs.Theorems.{from_one};
+ghost use Rattle.fp_kernel.specs.Theorems.{from_one, by_one};
 ghost use Rattle.fp_logic.specs.Derived.{sym_of, ap_of, ap_arg_of};
-ghost use Rattle.fp_logic.specs.Steps.{by_one};
-ghost use Rattle.fp_forms.specs.Shapes.{side_type, target, left, right, IsEquation, IsEquationOn};
+ghost use Rattle.fp_conclude.specs.Shapes.{side_type, target, left, right, IsEquation, IsEquationOn};
 
 use crate::equations::sym_known;
-use crate::steps::{mk_comb_known, refl_known};
 use fp_conclude::{RuleFault, sides};
 use fp_kernel::{Defs, Thm};
 use fp_term::Term;
@@ -41,8 +39,8 @@ pub fn ap_known(alloc: Global, defs: &Defs, term: &Term, a: &Thm) -> Result<Thm,
 {
     let _hyps = a.hyps();
     let _promises = a.promises();
-    let own = refl_known(alloc, defs, term)?;
-    mk_comb_known(alloc, defs, &own, a)
+    let own = defs.refl_known(alloc, term)?;
+    defs.mk_comb_known(alloc, &own, a)
 }
 
 /// `f t = g t` from `f = g`, for an argument of such functions.
@@ -51,8 +49,8 @@ pub fn ap_arg_known(alloc: Global, defs: &Defs, a: &Thm, term: &Term) -> Result<
     requires typed { (s : Typ) × IsWellTyped (signature_of defs.now) term.now s × IsEquationOn s a.now.concl }
     ensures { IfOk result (λ th. th ≡ by_one defs.now a.now (equal (target (side_type a.now.concl)) (app (left a.now.concl) term.now) (app (right a.now.concl) term.now))) }
 {
-    let own = refl_known(alloc, defs, term)?;
-    mk_comb_known(alloc, defs, a, &own)
+    let own = defs.refl_known(alloc, term)?;
+    defs.mk_comb_known(alloc, a, &own)
 }
 
 /// `t s = t u` from `s = u`.

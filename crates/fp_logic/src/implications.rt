@@ -6,21 +6,20 @@ ghost use Rattle.fp_conclude.specs.Outcomes.{Answers};
 ghost use Rattle.fp_kernel.specs.Definitions.{Within};
 ghost use Rattle.fp_kernel.specs.Start.{signature_of};
 ghost use Rattle.fp_kernel.specs.Derivability.{IsFormula};
-ghost use Rattle.fp_kernel.specs.Theorems.{from_one, from_both};
+ghost use Rattle.fp_kernel.specs.Theorems.{from_one, from_both, by_one, by_both, from_itself};
 ghost use Rattle.fp_logic.specs.Derived.{mp_of, undisch_from, disch_of};
 ghost use Rattle.fp_forms.specs.Schemas.{implied};
-ghost use Rattle.fp_forms.specs.Shapes.{right};
-ghost use Rattle.fp_logic.specs.Steps.{by_one, by_both, from_itself, without_one, IsImplication};
+ghost use Rattle.fp_conclude.specs.Shapes.{right};
+ghost use Rattle.fp_logic.specs.Steps.{without_one, IsImplication};
 
 use crate::choosing::conjunct;
 use crate::conclude;
 use crate::conjunctions::conj_known;
 use crate::holding::convert;
 use crate::lemmas::lemma_at;
-use crate::steps::{assume_known, antisym_known, eq_mp_known};
 use crate::unfolding::implication_meaning;
 use fp_conclude::{RuleFault, conjunction};
-use fp_forms::{Lemma, implication_parts, shapes};
+use fp_forms::{Lemma, implication_parts};
 use fp_kernel::{Defs, Thm};
 use fp_term::Term;
 use std::alloc::{AllocError, Global};
@@ -70,7 +69,7 @@ fn modus(
     ensures { IfOk result (λ th. th ≡ by_both defs.now a.now b.now right.now) }
 {
     let equation = conjunction_from(alloc, defs, a, left, right)?;
-    let both = eq_mp_known(alloc, defs, &equation, b)?;
+    let both = defs.eq_mp_known(alloc, &equation, b)?;
     conjunct(alloc, defs, false, &both, left, right)
 }
 
@@ -81,7 +80,7 @@ pub fn mp_known(alloc: Global, defs: &Defs, a: &Thm, b: &Thm) -> Result<Thm, All
     requires shape { a.now.concl ≡ implication b.now.concl (right a.now.concl) }
     ensures { IfOk result (λ th. th ≡ by_both defs.now a.now b.now (right a.now.concl)) }
 {
-    modus(alloc, defs, a, b, b.concl(), shapes::right(a.concl()))
+    modus(alloc, defs, a, b, b.concl(), fp_conclude::right(a.concl()))
 }
 
 /// `q` from `p --> q` and `p`.
@@ -105,7 +104,7 @@ pub fn undisch_known(
     requires { IsImplication defs.now a.now left.now right.now }
     ensures { IfOk result (λ th. th ≡ by_both defs.now a.now (from_itself defs.now left.now) right.now) }
 {
-    let itself = assume_known(alloc, defs, left)?;
+    let itself = defs.assume_known(alloc, left)?;
     modus(alloc, defs, a, &itself, left, right)
 }
 
@@ -127,7 +126,7 @@ fn with_assumption(alloc: Global, defs: &Defs, term: &Term, a: &Thm) -> Result<T
     requires formula { IsFormula (signature_of defs.now) term.now }
     ensures { IfOk result (λ th. th ≡ by_both defs.now (from_itself defs.now term.now) a.now (conjunction term.now a.now.concl)) }
 {
-    let itself = assume_known(alloc, defs, term)?;
+    let itself = defs.assume_known(alloc, term)?;
     conj_known(alloc, defs, &itself, a)
 }
 
@@ -138,7 +137,7 @@ fn first_assumed(alloc: Global, defs: &Defs, left: &Term, right: &Term) -> Resul
     ensures { IfOk result (λ th. th ≡ by_one defs.now (from_itself defs.now (conjunction left.now right.now)) left.now) }
 {
     let both = conjunction(alloc, left, right)?;
-    let itself = assume_known(alloc, defs, &both)?;
+    let itself = defs.assume_known(alloc, &both)?;
     conjunct(alloc, defs, true, &itself, left, right)
 }
 
@@ -152,7 +151,7 @@ fn implied_without(alloc: Global, defs: &Defs, term: &Term, a: &Thm) -> Result<T
     let _promises = a.promises();
     let first = with_assumption(alloc, defs, term, a)?;
     let second = first_assumed(alloc, defs, term, a.concl())?;
-    antisym_known(alloc, defs, &first, &second)
+    defs.antisym_known(alloc, &first, &second)
 }
 
 /// `t --> p` from `p`, without the hypothesis `t`, for a formula `t`.

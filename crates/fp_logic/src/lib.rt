@@ -13,7 +13,6 @@ pub mod holding;
 pub mod implications;
 pub mod instances;
 pub mod lemmas;
-pub mod steps;
 pub mod truths;
 pub mod unfolding;
 

@@ -3,9 +3,8 @@ ghost use Rattle.std.specs.Prelude.{◌≡◌, [], IfOk};
 ghost use Rattle.fp_conclude.specs.Logic.{truth_type, equal, true_constant};
 ghost use Rattle.fp_conclude.specs.Outcomes.{Answers, gives};
 ghost use Rattle.fp_kernel.specs.Definitions.{Within};
-ghost use Rattle.fp_kernel.specs.Theorems.{stands, from_one};
+ghost use Rattle.fp_kernel.specs.Theorems.{stands, from_one, by_one};
 ghost use Rattle.fp_logic.specs.Derived.{eqt_elim_of};
-ghost use Rattle.fp_logic.specs.Steps.{by_one};
 
 use crate::conclude;
 use crate::holding::convert;

@@ -2,23 +2,21 @@
 //! Primitive steps: `introduction` 90, `elimination` 41, `choice` 16.
 ghost use Rattle.std.specs.Prelude.{◌≡◌, IfOk};
 ghost use Rattle.fp_conclude.specs.Logic.{truth_type, alpha, equal, implication};
-ghost use Rattle.fp_conclude.specs.Axioms.{selection};
 ghost use Rattle.fp_forms.specs.Schemas.{q_variable};
-ghost use Rattle.fp_logic.specs.Steps.{plain, from_itself, by_one, by_both};
+ghost use Rattle.fp_kernel.specs.Theorems.{plain, from_itself, by_one, by_both};
 ghost use Rattle.fp_forms.specs.Existence.{predicate_variable, element_variable, holds, some_such, each_implies, reaches, reaches_all, each_chosen};
 
 use crate::universal::{gen_all_known, specialized};
-use fp_conclude::{alpha, truth_type};
+use fp_conclude::{Axiom, LogicalConstant, alpha, truth_type};
 use fp_forms::existence::{
     each_implies, element_variable, held, implied_body, predicate_variable, some,
 };
 use fp_forms::q_variable;
-use fp_forms::shapes::{argument_in, body_in};
+use fp_conclude::{argument_in, body_in};
 use fp_kernel::{Defs, Thm};
 use fp_logic::equations::unfold;
 use fp_logic::holding::{convert, fold};
 use fp_logic::implications::{disch_known, mp_known};
-use fp_logic::steps::{assume_known, connective_known, given, refl_known};
 use fp_term::{Name, Term};
 use std::alloc::{AllocError, Global};
 
@@ -26,9 +24,9 @@ use std::alloc::{AllocError, Global};
 fn meaning(alloc: Global, defs: &Defs) -> Result<Thm, AllocError>
     ensures { IfOk result (λ th. th ≡ plain defs.now (equal truth_type (some_such alpha predicate_variable) (reaches_all alpha predicate_variable))) }
 {
-    let meaning = connective_known(alloc, defs, 5)?;
+    let meaning = defs.connective_known(alloc, LogicalConstant::Existential)?;
     let predicate = predicate_variable(alloc)?;
-    let own = refl_known(alloc, defs, &predicate)?;
+    let own = defs.refl_known(alloc, &predicate)?;
     unfold(alloc, defs, &meaning, &own)
 }
 
@@ -48,7 +46,7 @@ fn implied_by(alloc: Global, defs: &Defs, each: &Term) -> Result<Thm, AllocError
     requires { each.now ≡ each_implies alpha predicate_variable q_variable }
     ensures { IfOk result (λ th. th ≡ by_one defs.now (from_itself defs.now (each_implies alpha predicate_variable q_variable)) (implication holds q_variable)) }
 {
-    let itself = assume_known(alloc, defs, each)?;
+    let itself = defs.assume_known(alloc, each)?;
     implied(alloc, defs, &itself)
 }
 
@@ -59,7 +57,7 @@ fn reached(alloc: Global, defs: &Defs, each: &Term, held: &Term) -> Result<Thm, 
     ensures { IfOk result (λ th. th ≡ by_both defs.now (from_itself defs.now (each_implies alpha predicate_variable q_variable)) (from_itself defs.now holds) q_variable) }
 {
     let implied = implied_by(alloc, defs, each)?;
-    let itself = assume_known(alloc, defs, held)?;
+    let itself = defs.assume_known(alloc, held)?;
     mp_known(alloc, defs, &implied, &itself)
 }
 
@@ -110,7 +108,7 @@ fn opened(alloc: Global, defs: &Defs, some: &Term) -> Result<Thm, AllocError>
     ensures { IfOk result (λ th. th ≡ by_one defs.now (from_itself defs.now (some_such alpha predicate_variable)) (reaches_all alpha predicate_variable)) }
 {
     let meaning = meaning(alloc, defs)?;
-    let itself = assume_known(alloc, defs, some)?;
+    let itself = defs.assume_known(alloc, some)?;
     convert(alloc, defs, &meaning, &itself)
 }
 
@@ -141,19 +139,12 @@ pub(crate) fn elimination(alloc: Global, defs: &Defs) -> Result<Thm, AllocError>
     disch_known(alloc, defs, &some, &reaches)
 }
 
-// `P x --> P (select P)`
-fn selection(alloc: Global, defs: &Defs) -> Result<Thm, AllocError>
-    ensures { IfOk result (λ th. th ≡ plain defs.now selection) }
-{
-    given(defs.axiom(alloc, 2))
-}
-
 /// `!x. P x --> P (select P)`
 #[tactic(auto, unfolding(fp_term::specs::Names::is_name))]
 pub(crate) fn choice(alloc: Global, defs: &Defs) -> Result<Thm, AllocError>
     ensures { IfOk result (λ th. th ≡ plain defs.now (each_chosen alpha predicate_variable)) }
 {
-    let selection = selection(alloc, defs)?;
+    let selection = defs.axiom_known(alloc, Axiom::Selection)?;
     let name = Name::of(alloc, b"x")?;
     let ty = alpha(alloc)?;
     gen_all_known(alloc, defs, &name, &ty, &selection)

@@ -17,7 +17,7 @@ use crate::steps::variable;
 use crate::witness::{select_known, choose_known, exists_known};
 use fp_conclude::{RuleFault, differ, occurs, occurs_in_any, without};
 use fp_forms::existence_parts;
-use fp_forms::shapes::argument_in;
+use fp_conclude::argument_in;
 use fp_kernel::{Defs, Thm};
 use fp_term::{Name, Place, Signature, Term, Ty, open_with, same, type_of};
 use std::alloc::{AllocError, Global};

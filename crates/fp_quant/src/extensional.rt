@@ -9,19 +9,17 @@ ghost use Rattle.fp_conclude.specs.Hypotheses.{occurs, occurs_in_any};
 ghost use Rattle.fp_conclude.specs.Outcomes.{Answers};
 ghost use Rattle.fp_kernel.specs.Definitions.{Within};
 ghost use Rattle.fp_kernel.specs.Start.{signature_of};
-ghost use Rattle.fp_kernel.specs.Theorems.{from_one};
-ghost use Rattle.fp_logic.specs.Steps.{plain, by_one};
+ghost use Rattle.fp_kernel.specs.Theorems.{from_one, plain, by_one};
 ghost use Rattle.fp_quant.specs.Extensional.{type_of, alike_at, left_expanded, both_expanded, right_expanded, alike, is_free};
 ghost use Rattle.fp_quant.specs.Meanings.{eta_at};
 ghost use Rattle.fp_quant.specs.Universal.{applied_to_variable, same_functions, same_values, ext_of};
 
 use crate::fault::{free_in_hyps, unknown_name};
-use crate::steps::{lam_known, extension, inst_known, retyped_at_both, variable};
-use fp_conclude::{Equation, RuleFault, occurs, occurs_in_any, sides};
-use fp_forms::shapes::left;
+use crate::steps::{retyped_at_both, variable};
+use fp_conclude::{Axiom, Equation, RuleFault, occurs, occurs_in_any, sides};
+use fp_conclude::left;
 use fp_kernel::{Defs, Thm};
 use fp_logic::equations::sym_known;
-use fp_logic::steps::trans_known;
 use fp_term::{Name, Node, Term, Ty, function_of, same};
 use std::alloc::{AllocError, Global};
 
@@ -31,7 +29,7 @@ fn eta_schema(alloc: Global, defs: &Defs, from: &Ty, to: &Ty) -> Result<Thm, All
     requires second { IsType (signature_of defs.now) to.now }
     ensures { IfOk result (λ th. th ≡ plain defs.now (eta_at from.now to.now (free (codes "t") (function_type from.now to.now)))) }
 {
-    let axiom = extension(alloc, defs)?;
+    let axiom = defs.axiom_known(alloc, Axiom::Eta)?;
     retyped_at_both(alloc, defs, &axiom, from, to)
 }
 
@@ -58,7 +56,7 @@ fn eta(alloc: Global, defs: &Defs, from: &Ty, to: &Ty, function: &Term) -> Resul
 {
     let schema = eta_schema(alloc, defs, from, to)?;
     let pairs = [for_t(alloc, from, to, function)?];
-    inst_known(alloc, defs, &schema, &pairs)
+    defs.inst_known(alloc, &schema, &pairs)
 }
 
 /// Two functions, from which type and to which.
@@ -95,7 +93,7 @@ fn left_reduced(
     let _hyps = th.hyps();
     let _promises = th.promises();
     let expanded = expanded(alloc, defs, functions)?;
-    trans_known(alloc, defs, &expanded, th)
+    defs.trans_known(alloc, &expanded, th)
 }
 
 // `f = g` from `f = (%x. g x)`.
@@ -111,7 +109,7 @@ fn right_reduced(
     ensures { IfOk result (λ r. r ≡ by_one defs.now th.now (alike functions.now)) }
 {
     let eta = eta(alloc, defs, functions.from, functions.to, functions.right)?;
-    trans_known(alloc, defs, th, &eta)
+    defs.trans_known(alloc, th, &eta)
 }
 
 /// `f = g` from `f x = g x`, for a variable that is free in neither and in no hypothesis.
@@ -131,7 +129,7 @@ pub fn ext_known(
     ensures { IfOk result (λ th. th ≡ by_one defs.now a.now (alike functions.now)) }
 {
     let _concl = a.concl();
-    let alike = lam_known(alloc, defs, name, functions.from, a)?;
+    let alike = defs.lam_known(alloc, name, functions.from, a)?;
     let first = left_reduced(alloc, defs, functions, &alike)?;
     right_reduced(alloc, defs, functions, &first)
 }

@@ -7,8 +7,7 @@ ghost use Rattle.fp_conclude.specs.Checks.{typed_over};
 ghost use Rattle.fp_conclude.specs.Outcomes.{Answers, gives};
 ghost use Rattle.fp_kernel.specs.Definitions.{Within};
 ghost use Rattle.fp_kernel.specs.Start.{signature_of};
-ghost use Rattle.fp_kernel.specs.Theorems.{from_one};
-ghost use Rattle.fp_logic.specs.Steps.{by_one};
+ghost use Rattle.fp_kernel.specs.Theorems.{from_one, by_one};
 ghost use Rattle.fp_quant.specs.Universal.{value_at, gen_all_of, specialized_at, spec_of};
 
 use crate::fault::{free_in_hyps, unknown_name};

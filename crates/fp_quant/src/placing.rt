@@ -7,13 +7,13 @@ ghost use Rattle.fp_conclude.specs.Logic.{truth_type, predicate_type, implicatio
 ghost use Rattle.fp_conclude.specs.Checks.{AreTerms};
 ghost use Rattle.fp_kernel.specs.Derivability.{IsFormula};
 ghost use Rattle.fp_kernel.specs.Start.{signature_of};
-ghost use Rattle.fp_logic.specs.Steps.{plain};
+ghost use Rattle.fp_kernel.specs.Theorems.{plain};
 ghost use Rattle.fp_forms.specs.Existence.{some_such, reaches, each_chosen, statement_of};
 ghost use Rattle.fp_quant.specs.Existence.{placed, IsPredicate};
 ghost use Rattle.fp_quant.specs.Meanings.{for_alpha};
 
 use crate::kept::recalled;
-use crate::steps::{inst_known, retyped_at};
+use crate::steps::retyped_at;
 use fp_conclude::{predicate_over, truth_type};
 use fp_forms::existence::ExistenceSchema;
 use fp_kernel::{Defs, Thm};
@@ -69,7 +69,7 @@ fn with_terms(
     ensures { IfOk result (λ i. i ≡ plain defs.now (replaced (placed ty.now predicate.now other.0 other.1 other.2) th.now.concl)) }
 {
     let pairs = [for_predicate(alloc, ty, predicate)?, other];
-    inst_known(alloc, defs, th, &pairs)
+    defs.inst_known(alloc, th, &pairs)
 }
 
 /// `P t --> ex P`

@@ -7,16 +7,15 @@ ghost use Rattle.fp_conclude.specs.Logic.{truth_type, predicate_type, equal, tru
 ghost use Rattle.fp_conclude.specs.Hypotheses.{occurs_in_any};
 ghost use Rattle.fp_kernel.specs.Definitions.{Within};
 ghost use Rattle.fp_kernel.specs.Start.{signature_of};
-ghost use Rattle.fp_logic.specs.Steps.{plain, by_one};
+ghost use Rattle.fp_kernel.specs.Theorems.{plain, by_one};
 ghost use Rattle.fp_quant.specs.Meanings.{always, universal_at};
 
-use crate::steps::{lam_known, retyped_at};
-use fp_conclude::abstraction;
-use fp_forms::shapes::left;
+use crate::steps::retyped_at;
+use fp_conclude::{LogicalConstant, abstraction};
+use fp_conclude::left;
 use fp_kernel::{Defs, Thm};
 use fp_logic::equations::unfold;
 use fp_logic::holding::{convert, fold};
-use fp_logic::steps::{connective_known, refl_known, beta_known};
 use fp_logic::truths::{eqt_known, eqt_elim_known};
 use fp_term::{Name, Term, Ty};
 use std::alloc::{AllocError, Global};
@@ -26,7 +25,7 @@ fn universal_schema(alloc: Global, defs: &Defs, ty: &Ty) -> Result<Thm, AllocErr
     requires { IsType (signature_of defs.now) ty.now }
     ensures { IfOk result (λ th. th ≡ plain defs.now (universal_at ty.now)) }
 {
-    let meaning = connective_known(alloc, defs, 4)?;
+    let meaning = defs.connective_known(alloc, LogicalConstant::Universal)?;
     retyped_at(alloc, defs, &meaning, ty)
 }
 
@@ -41,7 +40,7 @@ pub fn universal(
     ensures { IfOk result (λ th. th ≡ plain defs.now (equal truth_type (app (quantifier (codes "all") ty.now) predicate.now) (always ty.now predicate.now))) }
 {
     let schema = universal_schema(alloc, defs, ty)?;
-    let own = refl_known(alloc, defs, predicate)?;
+    let own = defs.refl_known(alloc, predicate)?;
     unfold(alloc, defs, &schema, &own)
 }
 
@@ -53,7 +52,7 @@ fn always_from(alloc: Global, defs: &Defs, name: &Name, ty: &Ty, a: &Thm) -> Res
     ensures { IfOk result (λ th. th ≡ by_one defs.now a.now (always ty.now (abs ty.now (closed 0 name.now ty.now a.now.concl)))) }
 {
     let equation = eqt_known(alloc, defs, a)?;
-    lam_known(alloc, defs, name, ty, &equation)
+    defs.lam_known(alloc, name, ty, &equation)
 }
 
 /// `!x. p` from `p`, for a variable in no hypothesis.
@@ -106,7 +105,7 @@ fn true_at(
     ensures { IfOk result (λ th. th ≡ by_one defs.now a.now (equal truth_type (app predicate.now term.now) true_constant)) }
 {
     let always = always_of(alloc, defs, a, ty, predicate)?;
-    let own = refl_known(alloc, defs, term)?;
+    let own = defs.refl_known(alloc, term)?;
     unfold(alloc, defs, &always, &own)
 }
 
@@ -144,6 +143,6 @@ pub fn specialized(
 {
     let predicate = abstraction(alloc, ty, body)?;
     let applied = applied_to(alloc, defs, a, ty, &predicate, term)?;
-    let step = beta_known(alloc, defs, applied.concl())?;
+    let step = defs.beta_known(alloc, applied.concl())?;
     convert(alloc, defs, &step, &applied)
 }

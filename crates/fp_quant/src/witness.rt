@@ -8,8 +8,9 @@ ghost use Rattle.fp_conclude.specs.Hypotheses.{without, occurs, occurs_in_any};
 ghost use Rattle.fp_kernel.specs.Definitions.{Within};
 ghost use Rattle.fp_kernel.specs.Derivability.{IsFormula};
 ghost use Rattle.fp_kernel.specs.Start.{signature_of};
-ghost use Rattle.fp_forms.specs.Shapes.{left, right, body_in, IsAbstraction};
-ghost use Rattle.fp_logic.specs.Steps.{plain, by_one, without_one};
+ghost use Rattle.fp_conclude.specs.Shapes.{left, right, body_in, IsAbstraction};
+ghost use Rattle.fp_kernel.specs.Theorems.{plain, by_one};
+ghost use Rattle.fp_logic.specs.Steps.{without_one};
 ghost use Rattle.fp_quant.specs.Existential.{choice_made};
 ghost use Rattle.fp_forms.specs.Existence.{reaches, each_implies, at_choice};
 ghost use Rattle.fp_quant.specs.Existence.{IsPredicate, IsExistence};
@@ -19,11 +20,9 @@ use crate::steps::variable;
 use crate::universal::gen_all_known;
 use fp_conclude::{abstraction, apply, connective};
 use fp_forms::existence::at_choice;
-use fp_forms::shapes;
 use fp_kernel::{Defs, Thm};
 use fp_logic::holding::{convert, fold};
 use fp_logic::implications::{disch_known, mp_known};
-use fp_logic::steps::{mk_comb_known, refl_known, beta_known};
 use fp_term::{Name, Term, Ty};
 use std::alloc::{AllocError, Global};
 
@@ -45,7 +44,7 @@ pub fn applied(alloc: Global, defs: &Defs, predicate: &Term, term: &Term) -> Res
     ensures { IfOk result (λ th. th ≡ plain defs.now (equal truth_type (app predicate.now term.now) (opened 0 term.now (body_in predicate.now)))) }
 {
     let redex = apply(alloc, predicate, term)?;
-    beta_known(alloc, defs, &redex)
+    defs.beta_known(alloc, &redex)
 }
 
 /// `(%v. p) t` from `p` with `t` for `v`.
@@ -134,7 +133,7 @@ pub fn select_known(
     ensures { IfOk result (λ th. th ≡ by_one defs.now a.now (opened 0 (select ty.now predicate.now) (body_in predicate.now))) }
 {
     let held = held_at_choice(alloc, defs, a, ty, predicate)?;
-    let equation = beta_known(alloc, defs, held.concl())?;
+    let equation = defs.beta_known(alloc, held.concl())?;
     convert(alloc, defs, &equation, &held)
 }
 
@@ -144,7 +143,7 @@ fn own_implication(alloc: Global, defs: &Defs) -> Result<Thm, AllocError>
     ensures { IfOk result (λ th. th ≡ plain defs.now (equal (binary_type truth_type truth_type) (connective (codes "imp")) (connective (codes "imp")))) }
 {
     let imp = connective(alloc, b"imp")?;
-    refl_known(alloc, defs, &imp)
+    defs.refl_known(alloc, &imp)
 }
 
 // `(l --> q) = (r --> q)` from `l = r`.
@@ -159,9 +158,9 @@ fn with_conclusion(
     ensures { IfOk result (λ th. th ≡ plain defs.now (equal truth_type (implication (left equation.now.concl) formula.now) (implication (right equation.now.concl) formula.now))) }
 {
     let imp = own_implication(alloc, defs)?;
-    let once = mk_comb_known(alloc, defs, &imp, equation)?;
-    let own = refl_known(alloc, defs, formula)?;
-    mk_comb_known(alloc, defs, &once, &own)
+    let once = defs.mk_comb_known(alloc, &imp, equation)?;
+    let own = defs.refl_known(alloc, formula)?;
+    defs.mk_comb_known(alloc, &once, &own)
 }
 
 // `l --> q` from `q`, by `l = r` and without the hypothesis `r`.
@@ -170,7 +169,7 @@ fn implied(alloc: Global, defs: &Defs, equation: &Thm, b: &Thm) -> Result<Thm, A
     requires within { Within b.now.defs defs.now }
     ensures { IfOk result (λ th. th ≡ without_one defs.now (right equation.now.concl) b.now (implication (left equation.now.concl) b.now.concl)) }
 {
-    let discharged = disch_known(alloc, defs, shapes::right(equation.concl()), b)?;
+    let discharged = disch_known(alloc, defs, fp_conclude::right(equation.concl()), b)?;
     let turned = with_conclusion(alloc, defs, equation, b.concl())?;
     fold(alloc, defs, &turned, &discharged)
 }

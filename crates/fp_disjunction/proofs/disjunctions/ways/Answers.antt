@@ -2,7 +2,7 @@ use Rattle.std.proofs.Common.{◌∙◌, refl, ap}
 use Rattle.fp_term.specs.Terms.{app}
 use Rattle.fp_conclude.specs.Logic.{truth_type}
 use Rattle.fp_kernel.specs.Theorems.{Theorem}
-use Rattle.fp_forms.specs.Shapes.{left}
+use Rattle.fp_conclude.specs.Shapes.{left}
 use Rattle.fp_disjunction.specs.Schemas.{all_ways}
 use Rattle.fp_logic.proofs.Given.{Reduced, known_at, known_redex, known_typed}
 use Rattle.fp_disjunction.proofs.Ways.{ways_reduced, ways_typed}

@@ -2,7 +2,7 @@ use Rattle.std.proofs.Common.{◌∙◌, ap}
 use Rattle.std.specs.Prelude.{codes}
 use Rattle.fp_term.specs.Terms.{Tm, app}
 use Rattle.fp_conclude.specs.Logic.{truth_type, predicate_type, equal, connective}
-use Rattle.fp_logic.specs.Steps.{plain}
+use Rattle.fp_kernel.specs.Theorems.{plain}
 use Rattle.fp_logic.proofs.Given.{at_known, known_typed}
 use Rattle.fp_disjunction.proofs.Joined.{or_typed}
 use Rattle.fp_disjunction.proofs.joining.own_or_at.Goals as goal

@@ -2,7 +2,7 @@ use Rattle.std.proofs.Common.{◌≡◌, ◌∙◌, ap, subst}
 use Rattle.std.specs.Prelude.{IfOk}
 use Rattle.fp_conclude.specs.Logic.{truth_type}
 use Rattle.fp_kernel.specs.Theorems.{Theorem}
-use Rattle.fp_forms.specs.Shapes.{left}
+use Rattle.fp_conclude.specs.Shapes.{left}
 use Rattle.fp_logic.proofs.Given.{known_typed}
 use Rattle.fp_disjunction.proofs.Matched.{first_typed, match_asks, match_gives}
 use Rattle.fp_disjunction.proofs.negation.matched.Goals as goal

@@ -2,7 +2,7 @@ use Rattle.std.proofs.Common.{◌≡◌, ◌∙◌, refl, subst}
 use Rattle.std.specs.Prelude.{IfOk}
 use Rattle.fp_term.specs.Terms.{Tm, app}
 use Rattle.fp_conclude.specs.Logic.{truth_type, predicate_type}
-use Rattle.fp_logic.specs.Steps.{plain}
+use Rattle.fp_kernel.specs.Theorems.{plain}
 use Rattle.fp_forms.specs.Schemas.{p_variable, chooser}
 use Rattle.fp_logic.proofs.Given.{Reduced, at_known, known_redex, known_typed, same_app}
 use Rattle.fp_logic.proofs.Choosers.{once_typed, once_reduced}

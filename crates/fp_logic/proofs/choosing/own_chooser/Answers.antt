@@ -1,5 +1,5 @@
 use Rattle.fp_conclude.specs.Logic.{truth_type, binary_type, equal}
-use Rattle.fp_logic.specs.Steps.{plain}
+use Rattle.fp_kernel.specs.Theorems.{plain}
 use Rattle.fp_forms.specs.Schemas.{chooser}
 use Rattle.fp_logic.proofs.Given.{at_known, known_typed}
 use Rattle.fp_logic.proofs.Choosers.{chooser_typed}

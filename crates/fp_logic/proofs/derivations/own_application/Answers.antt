@@ -1,7 +1,7 @@
 use Rattle.std.proofs.Common.{refl}
 use Rattle.fp_conclude.specs.Logic.{truth_type, predicate_type, binary_type, equal, true_constant}
 use Rattle.fp_forms.specs.Schemas.{applying}
-use Rattle.fp_logic.specs.Steps.{plain}
+use Rattle.fp_kernel.specs.Theorems.{plain}
 use Rattle.fp_logic.proofs.Concrete.{at_start}
 use Rattle.fp_logic.proofs.Given.{known_typed, at_known}
 use Rattle.fp_logic.proofs.derivations.own_application.Goals as goal

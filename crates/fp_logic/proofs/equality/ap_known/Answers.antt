@@ -1,7 +1,7 @@
 use Rattle.std.proofs.Common.{refl}
 use Rattle.fp_term.specs.Typing.{function_type}
 use Rattle.fp_kernel.specs.Definitions.{whole}
-use Rattle.fp_forms.specs.Shapes.{side_type}
+use Rattle.fp_conclude.specs.Shapes.{side_type}
 use Rattle.fp_logic.proofs.Applied.{ap_gives}
 use Rattle.fp_logic.proofs.equality.ap_known.Goals as goal
 

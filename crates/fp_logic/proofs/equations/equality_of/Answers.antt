@@ -2,7 +2,7 @@ use Rattle.std.proofs.Common.{refl}
 use Rattle.fp_term.specs.Names.{equality}
 use Rattle.fp_term.specs.Terms.{constant}
 use Rattle.fp_conclude.specs.Logic.{equality_type, equal}
-use Rattle.fp_logic.specs.Steps.{plain}
+use Rattle.fp_kernel.specs.Theorems.{plain}
 use Rattle.fp_logic.proofs.Given.{at_type}
 use Rattle.fp_logic.proofs.equations.equality_of.Goals as goal
 

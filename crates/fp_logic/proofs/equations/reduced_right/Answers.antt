@@ -1,8 +1,8 @@
 use Rattle.std.proofs.Common.{refl}
 use Rattle.fp_term.specs.Terms.{opened}
 use Rattle.fp_conclude.specs.Logic.{equal}
-use Rattle.fp_forms.specs.Shapes.{side_type, right, function_in, argument_in, body_in}
-use Rattle.fp_logic.specs.Steps.{plain}
+use Rattle.fp_conclude.specs.Shapes.{side_type, right, function_in, argument_in, body_in}
+use Rattle.fp_kernel.specs.Theorems.{plain}
 use Rattle.fp_logic.proofs.Given.{at_type}
 use Rattle.fp_logic.proofs.Turning.{right_typed}
 use Rattle.fp_logic.proofs.equations.reduced_right.Goals as goal

@@ -1,8 +1,8 @@
 use Rattle.std.proofs.Common.{◌≡◌, subst}
 use Rattle.std.specs.Prelude.{IfOk}
 use Rattle.fp_term.specs.Terms.{Tm}
-use Rattle.fp_forms.specs.Shapes.{right}
-use Rattle.fp_logic.specs.Steps.{by_one}
+use Rattle.fp_conclude.specs.Shapes.{right}
+use Rattle.fp_kernel.specs.Theorems.{by_one}
 use Rattle.fp_logic.proofs.Turning.{lifted_sides, lifted_equality, swap_asks, swap_gives}
 use Rattle.fp_logic.proofs.equations.sym_known.Goals as goal
 

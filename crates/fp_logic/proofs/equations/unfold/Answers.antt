@@ -1,7 +1,7 @@
 use Rattle.std.proofs.Common.{refl, ap}
 use Rattle.fp_term.specs.Terms.{Tm, app}
 use Rattle.fp_kernel.specs.Definitions.{whole}
-use Rattle.fp_forms.specs.Shapes.{right}
+use Rattle.fp_conclude.specs.Shapes.{right}
 use Rattle.fp_logic.proofs.equations.unfold.Goals as goal
 
 pub mk_comb_known-requires : goal.mk_comb_known-requires

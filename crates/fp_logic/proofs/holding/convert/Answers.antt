@@ -1,7 +1,7 @@
 use Rattle.std.proofs.Common.{◌≡◌, subst}
 use Rattle.std.specs.Prelude.{IfOk}
 use Rattle.fp_kernel.specs.Theorems.{Theorem}
-use Rattle.fp_forms.specs.Shapes.{right}
+use Rattle.fp_conclude.specs.Shapes.{right}
 use Rattle.fp_logic.proofs.Turning.{convert_asks, convert_gives}
 use Rattle.fp_logic.proofs.holding.convert.Goals as goal
 

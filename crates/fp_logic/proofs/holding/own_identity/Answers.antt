@@ -1,6 +1,6 @@
 use Rattle.std.proofs.Common.{refl}
 use Rattle.fp_conclude.specs.Logic.{truth_type, predicate_type, equal}
-use Rattle.fp_logic.specs.Steps.{plain}
+use Rattle.fp_kernel.specs.Theorems.{plain}
 use Rattle.fp_forms.specs.Schemas.{identity}
 use Rattle.fp_logic.proofs.Concrete.{at_start}
 use Rattle.fp_logic.proofs.Given.{at_type}

@@ -1,7 +1,7 @@
 use Rattle.std.proofs.Common.{◌≡◌, subst}
 use Rattle.std.specs.Prelude.{IfOk}
 use Rattle.fp_term.specs.Terms.{Tm}
-use Rattle.fp_logic.specs.Steps.{by_one}
+use Rattle.fp_kernel.specs.Theorems.{by_one}
 use Rattle.fp_logic.proofs.Turning.{meaning_asks, meaning_gives}
 use Rattle.fp_logic.proofs.holding.with_meaning.Goals as goal
 

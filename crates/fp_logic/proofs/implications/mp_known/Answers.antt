@@ -1,6 +1,6 @@
 use Rattle.std.proofs.Common.{sym}
 use Rattle.std.specs.Prelude.{codes}
-use Rattle.fp_forms.specs.Shapes.{right}
+use Rattle.fp_conclude.specs.Shapes.{right}
 use Rattle.fp_logic.proofs.Shaped.{joined}
 use Rattle.fp_logic.proofs.implications.mp_known.Goals as goal
 

@@ -1,5 +1,5 @@
 use Rattle.std.proofs.Common.{◌∙◌, sym, ap}
-use Rattle.fp_forms.specs.Shapes.{argument_in}
+use Rattle.fp_conclude.specs.Shapes.{argument_in}
 use Rattle.fp_quant.proofs.Chosen.{choose_existence, choose_abstraction, choose_rest, choose_predicate, choose_concl}
 use Rattle.fp_quant.proofs.existential.chosen_by.Goals as goal
 

@@ -1,5 +1,5 @@
 use Rattle.std.proofs.Common.{◌∙◌, ap}
-use Rattle.fp_forms.specs.Shapes.{argument_in}
+use Rattle.fp_conclude.specs.Shapes.{argument_in}
 use Rattle.fp_quant.proofs.Parted.{existence_at, abstraction_at}
 use Rattle.fp_quant.proofs.existential.select.Goals as goal
 

@@ -1,4 +1,4 @@
-use Rattle.std.proofs.Common.{refl}
+use Rattle.fp_kernel.specs.Definitions.{whole}
 use Rattle.fp_quant.proofs.Functions.{eta_put}
 use Rattle.fp_quant.proofs.Placed.{plain_is}
 use Rattle.fp_quant.proofs.Subjects.{from_known, to_known}
@@ -10,11 +10,8 @@ eta_schema-requires-clause-first c = from_known c.args.defs.now c.args.from.now 
 pub eta_schema-requires-clause-second : goal.eta_schema-requires-clause-second
 eta_schema-requires-clause-second c = to_known c.args.defs.now c.args.from.now c.args.to.now c.args.function.now c.requires
 
-pub inst_known-requires-clause-whole : goal.inst_known-requires-clause-whole
-inst_known-requires-clause-whole c = rw c.in_ok-schema.ensures refl
-
-pub inst_known-requires-clause-typed : goal.inst_known-requires-clause-typed
-inst_known-requires-clause-typed c = rw c.in_ok-for_t.ensures (c.requires, tt)
+pub inst_known-requires : goal.inst_known-requires
+inst_known-requires c = rw (c.in_ok-schema.ensures, c.in_ok-for_t.ensures) (whole, (c.requires, tt))
 
 pub returns : goal.returns
 returns c =

@@ -1,7 +1,7 @@
 use Rattle.std.proofs.Common.{◌∙◌, refl, ap}
 use Rattle.fp_kernel.specs.Definitions.{whole}
 use Rattle.fp_kernel.specs.Theorems.{Theorem}
-use Rattle.fp_forms.specs.Shapes.{left}
+use Rattle.fp_conclude.specs.Shapes.{left}
 use Rattle.fp_quant.proofs.universal.applied_to.Goals as goal
 
 pub eqt_elim_known-requires-clause-within : goal.eqt_elim_known-requires-clause-within

@@ -2,8 +2,7 @@ use Rattle.std.proofs.Common.{◌∙◌, refl, ap}
 use Rattle.fp_term.specs.Terms.{Tm, app, abs}
 use Rattle.fp_conclude.specs.Logic.{truth_type}
 use Rattle.fp_kernel.specs.Definitions.{whole}
-use Rattle.fp_kernel.specs.Theorems.{Theorem}
-use Rattle.fp_logic.specs.Steps.{by_one}
+use Rattle.fp_kernel.specs.Theorems.{Theorem, by_one}
 use Rattle.fp_logic.proofs.Given.{Reduced, known_at, known_redex, known_typed}
 use Rattle.fp_quant.proofs.Universals.{concl_made}
 use Rattle.fp_quant.proofs.universal.specialized.Goals as goal

@@ -2,7 +2,7 @@ use Rattle.std.proofs.Common.{◌≡◌, ap, subst}
 use Rattle.std.specs.Prelude.{IfOk}
 use Rattle.fp_conclude.specs.Logic.{implication}
 use Rattle.fp_kernel.specs.Theorems.{Theorem}
-use Rattle.fp_forms.specs.Shapes.{right}
+use Rattle.fp_conclude.specs.Shapes.{right}
 use Rattle.fp_logic.proofs.Turning.{convert_gives}
 use Rattle.fp_quant.proofs.Reached.{itself_plain, over}
 use Rattle.fp_quant.proofs.witness.by_rule.Goals as goal

@@ -3,7 +3,7 @@ use Rattle.std.specs.Prelude.{IfOk}
 use Rattle.fp_term.specs.Terms.{Tm, free, opened}
 use Rattle.fp_conclude.specs.Logic.{for_all}
 use Rattle.fp_kernel.specs.Definitions.{whole}
-use Rattle.fp_forms.specs.Shapes.{body_in}
+use Rattle.fp_conclude.specs.Shapes.{body_in}
 use Rattle.fp_logic.specs.Steps.{without_one}
 use Rattle.fp_quant.proofs.Reached.{variable_typed, closed_implied}
 use Rattle.fp_quant.proofs.witness.each_implied.Goals as goal

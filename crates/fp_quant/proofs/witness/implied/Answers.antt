@@ -2,7 +2,7 @@ use Rattle.std.proofs.Common.{refl, ap}
 use Rattle.fp_conclude.specs.Logic.{truth_type, equal}
 use Rattle.fp_kernel.specs.Definitions.{whole}
 use Rattle.fp_kernel.specs.Theorems.{Theorem}
-use Rattle.fp_forms.specs.Shapes.{left, right}
+use Rattle.fp_conclude.specs.Shapes.{left, right}
 use Rattle.fp_logic.proofs.Turning.{lifted, lifted_sides}
 use Rattle.fp_quant.proofs.Reached.{itself_plain}
 use Rattle.fp_quant.proofs.Placed.{plain_within}

@@ -1,7 +1,7 @@
 use Rattle.std.proofs.Common.{refl}
 use Rattle.std.specs.Prelude.{codes}
 use Rattle.fp_conclude.specs.Logic.{truth_type, binary_type, equal, connective}
-use Rattle.fp_logic.specs.Steps.{plain}
+use Rattle.fp_kernel.specs.Theorems.{plain}
 use Rattle.fp_logic.proofs.Concrete.{at_start}
 use Rattle.fp_logic.proofs.Given.{at_known, known_typed}
 use Rattle.fp_quant.proofs.witness.own_implication.Goals as goal
