@@ -9,3 +9,6 @@ pub mod Known
 pub mod Typed
 pub mod Retyped
 pub mod Applied
+pub mod NumberedNames
+pub mod FunctionTypes
+pub mod Bodies

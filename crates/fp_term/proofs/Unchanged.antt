@@ -1,7 +1,8 @@
 -- What has nothing to replace stays as it is.
-use Rattle.std.proofs.Common.{◌≡◌, ◌≤◌, ℕ, ◌+◌, ◌-◌, max, Bool, true, false, ◌||◌, List, refl, ap, arith}
+use Rattle.std.proofs.Common.{◌≡◌, ◌≤◌, ℕ, ◌+◌, Bool, true, false, ◌||◌, List, refl, ap, arith}
 use Rattle.fp_term.specs.Types.{Typ, Typs, variable, applied, none, more, is_polymorphic, are_polymorphic, retyped, all_retyped}
 use Rattle.fp_term.specs.Terms.{Tm, bound, free, constant, app, abs, loose_of, is_open, has_type_variables, opened, closed, replaced, retyped_term}
+use Rattle.fp_term.specs.Variables.{occurs, with_variables}
 
 neither : (a b : Bool) → (a || b) ≡ false → (a ≡ false) × (b ≡ false)
 neither true b e = cc
@@ -43,3 +44,18 @@ unretyped_term pairs (free a s) e = ap (free a) (unretyped pairs s e)
 unretyped_term pairs (constant a s) e = ap (constant a) (unretyped pairs s e)
 unretyped_term pairs (app f x) e = let p = neither (has_type_variables f) (has_type_variables x) e in rw (unretyped_term pairs f p.0, unretyped_term pairs x p.1) refl
 unretyped_term pairs (abs s x) e = let p = neither (is_polymorphic s) (has_type_variables x) e in rw (unretyped pairs s p.0, unretyped_term pairs x p.1) refl
+
+-- a closed term has no variables
+pub no_occurrence : (name : List ℕ) (ty : Typ) (t : Tm) → is_open t ≡ false → occurs name ty t ≡ false
+no_occurrence name ty (bound n) e = refl
+no_occurrence name ty (free a s) e = cc
+no_occurrence name ty (constant a s) e = refl
+no_occurrence name ty (app f x) e = let p = neither (is_open f) (is_open x) e in rw (no_occurrence name ty f p.0, no_occurrence name ty x p.1) refl
+no_occurrence name ty (abs s x) e = no_occurrence name ty x e
+
+pub no_variables : (known : List (List ℕ × Typ)) (t : Tm) → is_open t ≡ false → with_variables known t ≡ known
+no_variables known (bound n) e = refl
+no_variables known (free a s) e = cc
+no_variables known (constant a s) e = refl
+no_variables known (app f x) e = let p = neither (is_open f) (is_open x) e in rw (no_variables known f p.0) (no_variables known x p.1)
+no_variables known (abs s x) e = no_variables known x e

@@ -1,6 +1,7 @@
 -- The form of a name, and the names that the logic itself has.
-use Rattle.std.specs.Prelude.{ℕ, ◌+◌, ◌*◌, ◌%◌, Bool, not, ◌&&◌, ◌||◌, ◌==◌, nat_lt, List, [], ◌∷◌, length, slice_index, codes}
+use Rattle.std.specs.Prelude.{ℕ, ◌+◌, ◌*◌, ◌%◌, Bool, not, ◌&&◌, ◌||◌, ◌==◌, nat_lt, List, [], ◌∷◌, length, slice_index, codes, ◌++◌}
 use Rattle.std.specs.List.{list_all}
+use Rattle.std.specs.Fmt.{decimal}
 use Rattle.std.specs.Char.{is_ascii_alphabetic, is_ascii_alphanumeric}
 
 -- a letter or `_`
@@ -37,3 +38,7 @@ name_hash bytes = hashed_from 1 bytes
 -- the same for what has two parts, by those of the parts
 abbrev pub mixed : ℕ → ℕ → ℕ → ℕ
 mixed kind a b = (a * 2654435761 + b * 40503 + kind) % 4294967296
+
+-- the stem with the number's digits after it
+abbrev pub numbered : List ℕ → ℕ → List ℕ
+numbered stem n = stem ++ decimal n

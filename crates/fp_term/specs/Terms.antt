@@ -1,5 +1,5 @@
 -- Terms of higher-order logic as data.
-use Rattle.std.specs.Prelude.{◌≡◌, ◌≤◌, ℕ, ◌+◌, ◌-◌, max, Bool, true, false, ◌&&◌, ◌||◌, ◌==◌, if◌then◌else◌, List, [], ◌∷◌, Option, Some, None}
+use Rattle.std.specs.Prelude.{◌≡◌, ◌≤◌, ℕ, ◌+◌, ◌-◌, max, Bool, true, false, ◌&&◌, ◌||◌, ◌==◌, if◌then◌else◌, List, [], ◌∷◌, ◌++◌, Option, Some, None}
 use Rattle.std.specs.Str.{bytes_eq}
 use Rattle.fp_term.specs.Names.{name_hash, mixed}
 use Rattle.fp_term.specs.Types.{Typ, type_eq, type_hash, is_polymorphic, retyped}
@@ -119,3 +119,24 @@ retyped_term pairs (free a s) = free a (retyped pairs s)
 retyped_term pairs (constant a s) = constant a (retyped pairs s)
 retyped_term pairs (app f x) = app (retyped_term pairs f) (retyped_term pairs x)
 retyped_term pairs (abs s x) = abs (retyped pairs s) (retyped_term pairs x)
+
+-- the head applied to the arguments, one after the other
+abbrev pub applied_to : Tm → List Tm → Tm
+applied_to head [] = head
+applied_to head (t ∷ ts) = applied_to (app head t) ts
+
+-- what is applied in a term, to no argument where the term isn't an application
+abbrev pub head_of : Tm → Tm
+head_of (bound n) = bound n
+head_of (free a s) = free a s
+head_of (constant a s) = constant a s
+head_of (app f x) = head_of f
+head_of (abs s x) = abs s x
+
+-- the arguments to which its head is applied, the first one first
+abbrev pub arguments_of : Tm → List Tm
+arguments_of (bound n) = []
+arguments_of (free a s) = []
+arguments_of (constant a s) = []
+arguments_of (app f x) = arguments_of f ++ x ∷ []
+arguments_of (abs s x) = []

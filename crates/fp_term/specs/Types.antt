@@ -101,6 +101,10 @@ abbrev pub type_or : Option Typ → Typ → Typ
 type_or None t = t
 type_or (Some u) t = u
 
+abbrev pub types_or : Option Typs → Typs → Typs
+types_or None ts = ts
+types_or (Some us) ts = us
+
 -- the type with the types of the pairs in place of their variables, all at once
 abbrev mutual
   pub retyped : List (List ℕ × Typ) → Typ → Typ

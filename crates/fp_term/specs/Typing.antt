@@ -9,6 +9,11 @@ use Rattle.fp_term.specs.Terms.{Tm, bound, free, constant, app, abs}
 abbrev pub function_type : Typ → Typ → Typ
 function_type from to = applied function (more from (more to none))
 
+-- the type of functions of these arguments
+abbrev pub function_type_over : List Typ → Typ → Typ
+function_type_over [] to = to
+function_type_over (s ∷ from) to = function_type s (function_type_over from to)
+
 -- the type of an application, from the types of its parts
 abbrev pub type_of_app : Typ → Typ → Option Typ
 type_of_app (applied name (more from (more to none))) arg = if bytes_eq name function && type_eq from arg then Some to else None

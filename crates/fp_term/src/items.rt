@@ -1,4 +1,5 @@
-ghost use Rattle.std.specs.Prelude.{◌≡◌, [], ◌∷◌, ◌++◌, OnOk, OnErr};
+//! Lists of values.
+ghost use Rattle.std.specs.Prelude.{◌≡◌, [], ◌∷◌, ◌++◌, IfOk, OnOk, OnErr};
 
 use std::alloc::{AllocError, Global};
 use std::marker::Model;
@@ -51,5 +52,24 @@ impl<T: Drop> Items<T> {
     {
         self.items.push(item)?;
         Ok(())
+    }
+
+    /// The list with a value at the end.
+    pub fn appended(self, item: T) -> Result<Items<T>, AllocError>
+        ensures { IfOk result (λ l. l ≡ self ++ item ∷ []) }
+    {
+        let mut list = self;
+        list.push(item)?;
+        Ok(list)
+    }
+
+    /// The list with those of another at the end.
+    pub fn extended(self, more: Items<T>) -> Result<Items<T>, AllocError>
+        ensures { IfOk result (λ l. l ≡ self ++ more) }
+    {
+        let Items { mut items } = self;
+        let Items { items: mut others } = more;
+        items.append(&mut others)?;
+        Ok(Items { items })
     }
 }

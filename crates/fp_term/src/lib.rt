@@ -3,11 +3,13 @@
 
 mod consts;
 mod index;
+mod instance;
 mod items;
 mod matching;
 mod name;
 mod place;
 mod signature;
+mod spine;
 mod statement;
 mod substitute;
 mod term;
@@ -16,14 +18,16 @@ mod typing;
 mod variables;
 
 pub use consts::Consts;
+pub use instance::{find, inst, inst_ty, retype};
 pub use items::Items;
-pub use matching::match_ty;
-pub use name::{Name, equality_name, function_name, truth_name};
+pub use matching::{find_type, match_ty};
+pub use name::{Name, equality_name, function_name, is_name, numbered, truth_name};
 pub use place::Place;
 pub use signature::Signature;
+pub use spine::{apply, arguments, head};
 pub use statement::{Statement, copy_all};
-pub use substitute::{close_over, inst, inst_ty, open_with};
+pub use substitute::{close_at, close_over, open_at, open_with};
 pub use term::{Node, Term, depth, nodes, same};
 pub use ty::{Ty, TyNode, Tys, TysNode};
-pub use typing::{TypeOfFault, function_of, type_of};
-pub use variables::{first_free, hidden_type};
+pub use typing::{TypeOfFault, function_of, function_of_all, type_of};
+pub use variables::{add_variables, first_free, free_variables, hidden_type, occurs};

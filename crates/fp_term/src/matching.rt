@@ -1,3 +1,4 @@
+//! Matching of types.
 ghost use Rattle.std.specs.Prelude.{◌≡◌, [], ◌∷◌, ◌++◌, Some, None, IfOk, MatchOption, MatchBool};
 ghost use Rattle.std.specs.Option.{option_copied};
 ghost use Rattle.fp_term.specs.Types.{found_type, matched, all_matched, retyped, IsInstance};
@@ -7,8 +8,8 @@ use crate::name::Name;
 use crate::ty::{Ty, TyNode, Tys, TysNode};
 use std::alloc::{AllocError, Global};
 
-// The type of the first pair for the name.
-pub(crate) fn find_type<'a>(name: &Name, pairs: &'a [(Name, Ty)]) -> Option<&'a Ty>
+/// The type of the first pair for the name.
+pub fn find_type<'a>(name: &Name, pairs: &'a [(Name, Ty)]) -> Option<&'a Ty>
     ensures { option_copied result ≡ found_type name.now pairs.now }
 {
     for pair in pairs {

@@ -1,7 +1,8 @@
-ghost use Rattle.std.specs.Prelude.{◌≡◌, ◌↔◌, ◌+◌, ◌*◌, ◌%◌, true, false, IsTrue, IfOk, OnOk, OnErr, MatchResult, MatchOption};
+//! Names, and the form that they have.
+ghost use Rattle.std.specs.Prelude.{◌≡◌, ◌≤◌, ◌↔◌, ◌+◌, ◌*◌, ◌%◌, true, false, IsTrue, IfOk, OnOk, OnErr, MatchResult, MatchOption, length, ◌++◌};
 ghost use Rattle.std.specs.List.{list_all};
 ghost use Rattle.std.specs.Str.{bytes_eq};
-ghost use Rattle.fp_term.specs.Names.{is_name, is_start_byte, is_part_byte, function, truth, equality, name_hash, mixed};
+ghost use Rattle.fp_term.specs.Names.{is_name, is_start_byte, is_part_byte, function, truth, equality, name_hash, mixed, numbered};
 
 use std::alloc::{AllocError, Global};
 use std::marker::Model;
@@ -54,8 +55,9 @@ fn all_parts(bytes: &[u8]) -> bool
     bytes.iter().all(|byte| is_part(*byte))
 }
 
+/// Have the bytes the form of a name: from 1 to 160 of them, a letter or `_`, then letters, digits, `_` and `'`?
 #[tactic(auto, unfolding(crate::specs::Names::is_name))]
-fn has_form(bytes: &[u8]) -> bool
+pub fn is_name(bytes: &[u8]) -> bool
     ensures { result ≡ is_name bytes.now }
 {
     !bytes.is_empty() && bytes.len() < 161 && is_start(bytes[0]) && all_parts(bytes)
@@ -91,7 +93,7 @@ impl Name {
     pub fn new(alloc: Global, bytes: &[u8]) -> Result<Option<Name>, AllocError>
         ensures { IfOk result (λ o. MatchOption o (is_name bytes.now ≡ false) (λ n. (n ≡ bytes.now) × (is_name bytes.now ≡ true))) }
     {
-        if !has_form(bytes) {
+        if !is_name(bytes) {
             return Ok(None);
         }
         Ok(Some(Name::of(alloc, bytes)?))
@@ -180,4 +182,24 @@ pub fn function_name(alloc: Global) -> Result<Name, AllocError>
     ensures { IfOk result (λ n. n ≡ function) }
 {
     Name::of(alloc, b"fun")
+}
+
+// The bytes with the number's digits after them.
+fn numbered_bytes(alloc: Global, stem: &[u8], number: u32) -> Result<Vec<u8>, AllocError>
+    ensures { IfOk result (λ bytes. bytes.items ≡ numbered stem.now number) }
+{
+    let mut bytes = Vec::from_slice(alloc, stem)?;
+    let digits = number.to_string(alloc)?;
+    bytes.extend_from_slice(digits.as_bytes())?;
+    Ok(bytes)
+}
+
+/// The stem with the number's digits after it, as `w1` and `w12`. Different numbers give different names: the lemma
+/// `numbered_apart`.
+pub fn numbered(alloc: Global, stem: &Name, number: u32) -> Result<Name, AllocError>
+    requires { length stem.now ≤ 150 }
+    ensures { IfOk result (λ n. n ≡ numbered stem.now number) }
+{
+    let bytes = numbered_bytes(alloc, stem.as_slice(), number)?;
+    Name::of(alloc, bytes.as_slice())
 }

@@ -1,10 +1,14 @@
-ghost use Rattle.std.specs.Prelude.{◌≡◌, []};
+//! The variables of terms and types.
+ghost use Rattle.std.specs.Prelude.{◌≡◌, [], IfOk, OnOk};
 ghost use Rattle.std.specs.Option.{option_copied};
 ghost use Rattle.fp_term.specs.Variables.{first_beyond, first_free_of, hidden_of, type_names, all_type_names, is_among};
+ghost use Rattle.fp_term.specs.Variables.{occurs, is_variable_among, with_variable, with_variables, variables_of};
 
+use crate::items::Items;
 use crate::name::Name;
 use crate::term::{Node, Term};
 use crate::ty::{Ty, TyNode, Tys, TysNode};
+use std::alloc::{AllocError, Global};
 
 /// The term's first free variable from the left.
 #[tactic(auto, using(crate::proofs::Search::found_before, crate::proofs::Search::found_after))]
@@ -86,4 +90,71 @@ pub fn hidden_type<'a>(term: &'a Term, ty: &Ty) -> Option<&'a Name>
             None => hidden_type(body, ty),
         },
     }
+}
+
+/// Is the variable free in the term?
+#[tactic(auto, using(crate::proofs::Unchanged::no_occurrence))]
+pub fn occurs(name: &Name, ty: &Ty, term: &Term) -> bool
+    ensures { result ≡ occurs name.now ty.now term.now }
+{
+    if !term.is_open() {
+        return false;
+    }
+    match term.node() {
+        Node::Bound(_) => false,
+        Node::Free { name: a, ty: s } => a.equals(name) && s.equals(ty),
+        Node::Const { .. } => false,
+        Node::App { fun, arg } => occurs(name, ty, fun) || occurs(name, ty, arg),
+        Node::Abs { body, .. } => occurs(name, ty, body),
+    }
+}
+
+// Is the variable one of those?
+fn is_variable_among(known: &[(Name, Ty)], name: &Name, ty: &Ty) -> bool
+    ensures { result ≡ is_variable_among known.now name.now ty.now }
+{
+    for pair in known {
+        if pair.0.equals(name) && pair.1.equals(ty) {
+            return true;
+        }
+    }
+    false
+}
+
+fn add_variable(known: &mut Items<(Name, Ty)>, name: &Name, ty: &Ty) -> Result<(), AllocError>
+    ensures { OnOk result (known.new ≡ with_variable known.old name.now ty.now) }
+{
+    if is_variable_among(known.as_slice(), name, ty) {
+        return Ok(());
+    }
+    known.push((name.copy()?, ty.copy()?))
+}
+
+/// Puts the free variables of the term that aren't there yet at the end, each once, in the order of their first places.
+#[tactic(auto, using(crate::proofs::Unchanged::no_variables))]
+pub fn add_variables(known: &mut Items<(Name, Ty)>, term: &Term) -> Result<(), AllocError>
+    ensures { OnOk result (known.new ≡ with_variables known.old term.now) }
+{
+    if !term.is_open() {
+        return Ok(());
+    }
+    match term.node() {
+        Node::Bound(_) => Ok(()),
+        Node::Free { name, ty } => add_variable(known, name, ty),
+        Node::Const { .. } => Ok(()),
+        Node::App { fun, arg } => {
+            add_variables(known, fun)?;
+            add_variables(known, arg)
+        }
+        Node::Abs { body, .. } => add_variables(known, body),
+    }
+}
+
+/// The free variables of the term, each once, in the order of their first places.
+pub fn free_variables(alloc: Global, term: &Term) -> Result<Items<(Name, Ty)>, AllocError>
+    ensures { IfOk result (λ known. known ≡ variables_of term.now) }
+{
+    let mut known = Items::new(alloc);
+    add_variables(&mut known, term)?;
+    Ok(known)
 }

@@ -1,0 +1,5 @@
+pub mod Orders
+pub mod Matrix
+pub mod Greedy
+pub mod Grid
+pub mod Numbers
