@@ -42,4 +42,4 @@ pub one_form : {t u v : Tm} → NormalBy t u → NormalBy t v → u ≡ v
 one_form (done e) (done f) = refl
 one_form (done e) (again f d k) = cc
 one_form (again e d k) (done f) = cc
-one_form (again e d k) (again f g l) = let same = one_pass d g in one_form k (subst (λ (w : Tm). NormalBy w _) (sym same) l)
+one_form {v = v} (again e d k) (again f g l) = let same = one_pass d g in one_form k (subst (λ (w : Tm). NormalBy w v) (sym same) l)

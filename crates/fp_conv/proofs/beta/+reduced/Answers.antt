@@ -68,8 +68,8 @@ reduced-returns-then-is_normal-clause-passes t c = stays c.args.depth c.args.def
 pub reduced-returns-then-is_redex-clause-passes : goal.reduced-returns-then-is_redex-clause-passes
 reduced-returns-then-is_redex-clause-passes t c = contracts c.args.depth c.args.term.now c.beta_known.result (sym c.is_redex.ensures ∙ c.if-is_redex.true) c.beta_known.ensures.contracted
 
-pub reduced-returns-in-App-clause-passes : goal.reduced-returns-in-App-clause-passes
-reduced-returns-in-App-clause-passes t c =
+pub reduced-returns-in_ok-made-in-App-clause-passes : goal.reduced-returns-in_ok-made-in-App-clause-passes
+reduced-returns-in_ok-made-in-App-clause-passes t c =
     whole_passes c.args.depth c.args.term.now c.in-App.fun c.in-App.arg c.in_ok-made-in-App.made c.contracted_after.result (sym c.node.ensures ∙ ap seen c.in-App.is)
     (sym c.is_normal.ensures ∙ c.if-is_normal.false) (sym c.is_redex.ensures ∙ c.if-is_redex.false) c.in_ok-made-in-App.ensures.parts c.contracted_after.ensures.contracted
 
