@@ -4,12 +4,12 @@ use Rattle.fp_term.specs.Types.{Typ}
 use Rattle.fp_term.specs.Terms.{Tm, free, app, abs, opened, closed}
 use Rattle.fp_conclude.specs.Hypotheses.{occurs}
 use Rattle.fp_conv.specs.Beta.{is_abstraction, is_normal}
-use Rattle.fp_conv.specs.Passes.{numbered, IsFirstUnused, contracted, Passes, settled, at_redex, in_parts, in_body, NormalBy, done, again}
+use Rattle.fp_conv.specs.Passes.{opening_name, IsFirstUnused, contracted, Passes, settled, at_redex, in_parts, in_body, NormalBy, done, again}
 
 taken_below : (from : ℕ) (s : Typ) (body : Tm) (a b : List ℕ) (h : IsFirstUnused from s body a) (k : IsFirstUnused from s body b) → h.number < k.number → ⊥
 taken_below from s body a b h k below =
     let taken = k.others h.number below h.from_on in
-    let unused : occurs (numbered h.number) s body ≡ false = rw (← h.is) h.unused in
+    let unused : occurs (opening_name h.number) s body ≡ false = rw (← h.is) h.unused in
     cc
 
 same_number : (m n : ℕ) → (m < n → ⊥) → (n < m → ⊥) → m ≡ n
@@ -18,7 +18,7 @@ same_number m n not_below not_above = omega (arith, not_below, not_above)
 -- the first unused name is one
 pub one_name : {from : ℕ} {s : Typ} {body : Tm} {a b : List ℕ} → IsFirstUnused from s body a → IsFirstUnused from s body b → a ≡ b
 one_name {from} {s} {body} {a} {b} h k =
-    h.is ∙ ap numbered (same_number h.number k.number (taken_below from s body a b h k) (taken_below from s body b a k h)) ∙ sym k.is
+    h.is ∙ ap opening_name (same_number h.number k.number (taken_below from s body a b h k) (taken_below from s body b a k h)) ∙ sym k.is
 
 pub one_pass : {depth : ℕ} {t u v : Tm} → Passes depth t u → Passes depth t v → u ≡ v
 one_pass (settled e) (settled f) = refl

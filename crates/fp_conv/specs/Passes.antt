@@ -1,22 +1,22 @@
 -- The beta-normal form of a term: the one that passes over it come to.
-use Rattle.std.specs.Prelude.{◌≡◌, ℕ, ◌+◌, ◌<◌, ◌≤◌, true, false, List, ◌∷◌}
-use Rattle.std.specs.Fmt.{decimal}
+use Rattle.std.specs.Prelude.{◌≡◌, ℕ, ◌+◌, ◌<◌, ◌≤◌, true, false, List, codes}
+use Rattle.fp_term.specs.Names.{numbered}
 use Rattle.fp_term.specs.Types.{Typ}
 use Rattle.fp_term.specs.Terms.{Tm, free, app, abs, opened, closed}
 use Rattle.fp_conclude.specs.Hypotheses.{occurs}
 use Rattle.fp_conv.specs.Beta.{is_abstraction, is_normal}
 
--- `_` with the number's digits after it
-abbrev pub numbered : ℕ → List ℕ
-numbered n = 95 ∷ decimal n
+-- `_` with the number's digits after it; different numbers give different names
+abbrev pub opening_name : ℕ → List ℕ
+opening_name n = numbered (codes "_") n
 
 -- it is the name of the first number, from that one on, whose variable isn't free in the body
 pub record IsFirstUnused (from : ℕ) (s : Typ) (body : Tm) (name : List ℕ) : Type 0 where
   pub number : ℕ
   pub from_on : from ≤ number
-  pub is : name ≡ numbered number
+  pub is : name ≡ opening_name number
   pub unused : occurs name s body ≡ false
-  pub others : (k : ℕ) → k < number → from ≤ k → occurs (numbered k) s body ≡ true
+  pub others : (k : ℕ) → k < number → from ≤ k → occurs (opening_name k) s body ≡ true
 
 -- a redex becomes its body at the argument, all else stays
 abbrev pub contracted : Tm → Tm

@@ -4,31 +4,19 @@ ghost use Rattle.fp_term.specs.Terms.{free, opened};
 ghost use Rattle.fp_term.specs.Variables.{is_among, free_names};
 ghost use Rattle.fp_conclude.specs.Hypotheses.{occurs, occurs_in_any};
 ghost use Rattle.fp_conv.specs.Outermost.{is_used};
-ghost use Rattle.fp_conv.specs.Passes.{numbered, IsFirstUnused};
+ghost use Rattle.fp_conv.specs.Passes.{opening_name, IsFirstUnused};
 
 use fp_conclude::{Equation, occurs, occurs_in_any};
-use fp_term::{Name, Node, Term, Ty, open_with};
+use fp_term::{Name, Node, Term, Ty, numbered, open_with};
 use std::alloc::{AllocError, Global};
 
-// The bytes of `_` and the number's digits.
-fn numbered_bytes(alloc: Global, number: u32) -> Result<Vec<u8>, AllocError>
-    ensures { IfOk result (λ bytes. bytes.items ≡ numbered number) }
+// `_` and the number's digits.
+#[tactic(auto, unfolding(fp_term::specs::Names::is_name))]
+fn opening_name(alloc: Global, number: u32) -> Result<Name, AllocError>
+    ensures { IfOk result (λ name. name ≡ opening_name number) }
 {
-    let mut bytes = Vec::from_slice(alloc, b"_")?;
-    let digits = number.to_string(alloc)?;
-    bytes.extend_from_slice(digits.as_bytes())?;
-    Ok(bytes)
-}
-
-// `_` and the number's digits. Different numbers give different names.
-fn numbered(alloc: Global, number: u32) -> Result<Name, AllocError>
-    ensures { IfOk result (λ name. name ≡ numbered number) }
-{
-    let bytes = numbered_bytes(alloc, number)?;
-    match Name::new(alloc, bytes.as_slice())? {
-        Some(name) => Ok(name),
-        None => Err(AllocError),
-    }
+    let stem = Name::of(alloc, b"_")?;
+    numbered(alloc, &stem, number)
 }
 
 // The name of the first number, from that one on, whose variable of the type isn't free in the body.
@@ -36,7 +24,7 @@ fn first_unused(alloc: Global, from: u32, ty: &Ty, body: &Term) -> Result<Name, 
     ensures { IfOk result (λ name. IsFirstUnused from ty.now body.now name) }
 {
     for number in from..u32::MAX {
-        let name = numbered(alloc, number)?;
+        let name = opening_name(alloc, number)?;
         if !occurs(&name, ty, body) {
             return Ok(name);
         }
@@ -63,7 +51,7 @@ fn fresh(
     ensures { IfOk result (λ name. (occurs name ty.now body.now || (occurs name ty.now other.now || occurs_in_any name ty.now hyps.now)) ≡ false) }
 {
     for number in from..u32::MAX {
-        let name = numbered(alloc, number)?;
+        let name = opening_name(alloc, number)?;
         if !is_taken(&name, ty, body, other, hyps) {
             return Ok(name);
         }
@@ -159,7 +147,7 @@ pub(crate) fn unused(
     ensures { IfOk result (λ name. is_used name (term.now ∷ sides.now.left.now ∷ sides.now.right.now ∷ hyps.now) ≡ false) }
 {
     for number in from..u32::MAX {
-        let name = numbered(alloc, number)?;
+        let name = opening_name(alloc, number)?;
         if !is_used_here(&name, term, sides, hyps) {
             return Ok(name);
         }
