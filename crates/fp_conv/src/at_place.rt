@@ -69,10 +69,13 @@ fn closed_again(
 ) -> Result<Thm, AllocError>
     requires typed { IsTyped (signature_of defs.now) (abs ty.now body.now) }
     requires equation { eq.now.concl ≡ equal sides.now.ty.now sides.now.left.now sides.now.right.now }
-    requires apart { (occurs opening.0 ty.now body.now || (occurs opening.0 ty.now eq.now.concl || occurs_in_any opening.0 ty.now eq.now.hyps)) ≡ false }
+    requires apart { (occurs opening.0 ty.now body.now || (occurs opening.0 ty.now eq.now.concl || occurs_in_any
+        opening.0 ty.now eq.now.hyps)) ≡ false }
     requires opened { opening.1 ≡ opened 0 (free opening.0 ty.now) body.now }
-    requires inner { Equates defs.now eq.now.promises eq.now.hyps opening.1 (put_at rest.now sides.now.right.now opening.1) inner }
-    ensures { IfOk result (Equates defs.now eq.now.promises eq.now.hyps (abs ty.now body.now) (abs ty.now (put_at rest.now sides.now.right.now body.now))) }
+    requires inner { Equates defs.now eq.now.promises eq.now.hyps opening.1
+        (put_at rest.now sides.now.right.now opening.1) inner }
+    ensures { IfOk result (Equates defs.now eq.now.promises eq.now.hyps (abs ty.now body.now)
+        (abs ty.now (put_at rest.now sides.now.right.now body.now))) }
 {
     lam_known(alloc, defs, &opening.0, ty, &inner)
 }
@@ -93,7 +96,8 @@ fn in_abstraction(
     requires equation { eq.now.concl ≡ equal sides.now.ty.now sides.now.left.now sides.now.right.now }
     requires typed { IsTyped (signature_of defs.now) (abs ty.now body.now) }
     requires there { (step : ℕ) × (subterm_at (step ∷ rest.now) (abs ty.now body.now) ≡ Some sides.now.left.now) }
-    ensures { IfOk result (Equates defs.now eq.now.promises eq.now.hyps (abs ty.now body.now) (abs ty.now (put_at rest.now sides.now.right.now body.now))) }
+    ensures { IfOk result (Equates defs.now eq.now.promises eq.now.hyps (abs ty.now body.now)
+        (abs ty.now (put_at rest.now sides.now.right.now body.now))) }
 {
     let opening = opening(alloc, depth, ty, body, eq.concl(), eq.hyps())?;
     let next = depth.saturating_add(1);
@@ -116,7 +120,8 @@ fn rewritten(
     requires equation { eq.now.concl ≡ equal sides.now.ty.now sides.now.left.now sides.now.right.now }
     requires typed { IsTyped (signature_of defs.now) term.now }
     requires there { subterm_at steps.now term.now ≡ Some sides.now.left.now }
-    ensures { IfOk result (Equates defs.now eq.now.promises eq.now.hyps term.now (put_at steps.now sides.now.right.now term.now)) }
+    ensures { IfOk result (Equates defs.now eq.now.promises eq.now.hyps term.now
+        (put_at steps.now sides.now.right.now term.now)) }
 {
     let Some((step, rest)) = steps.split_first() else {
         return at_root(alloc, defs, eq, sides);
@@ -148,7 +153,8 @@ pub fn rewrite_at_known(
     requires equation { eq.now.concl ≡ equal sides.now.ty.now sides.now.left.now sides.now.right.now }
     requires typed { IsTyped (signature_of defs.now) term.now }
     requires there { subterm_at place.now term.now ≡ Some sides.now.left.now }
-    ensures { IfOk result (Equates defs.now eq.now.promises eq.now.hyps term.now (put_at place.now sides.now.right.now term.now)) }
+    ensures { IfOk result (Equates defs.now eq.now.promises eq.now.hyps term.now
+        (put_at place.now sides.now.right.now term.now)) }
 {
     let steps = place.steps(alloc)?;
     rewritten(alloc, defs, steps.as_slice(), eq, sides, term, 0)
@@ -178,7 +184,9 @@ fn rewritten_at(
     requires within { Within eq.now.defs defs.now }
     requires equation { eq.now.concl ≡ equal sides.now.ty.now sides.now.left.now sides.now.right.now }
     requires typed { IsTyped (signature_of defs.now) term.now }
-    ensures { (s : Typ) → typed_over (signature_of defs.now) term.now ≡ gives s → Answers result (from_one defs.now eq.now eq.now.hyps (put_by s term.now place.now (sides.now.ty.now, sides.now.left.now, sides.now.right.now))) }
+    ensures { (s : Typ) → typed_over (signature_of defs.now) term.now ≡ gives s → Answers result
+        (from_one defs.now eq.now eq.now.hyps (put_by s term.now place.now
+        (sides.now.ty.now, sides.now.left.now, sides.now.right.now))) }
 {
     let steps = place.steps(alloc)?;
     let Some(part) = subterm_at(steps.as_slice(), term) else {
@@ -203,7 +211,8 @@ pub fn rewrite_at(
     term: &Term,
 ) -> Result<Thm, RuleFault>
     requires { Within eq.now.defs defs.now }
-    ensures { Answers result (from_one defs.now eq.now eq.now.hyps (rewrite_of (signature_of defs.now) place.now eq.now.concl term.now)) }
+    ensures { Answers result (from_one defs.now eq.now eq.now.hyps (rewrite_of (signature_of defs.now) place.now
+        eq.now.concl term.now)) }
 {
     typed_over(alloc, defs.signature(), term)?;
     let Some(sides) = sides(eq.concl()) else {

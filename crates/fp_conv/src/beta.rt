@@ -121,7 +121,8 @@ fn closed_again(
     requires opened { opening.1 ≡ opened 0 (free opening.0 ty.now) body.now }
     requires inner { Reduction defs.now opening.1 inner }
     ensures reduction { IfOk result (Reduction defs.now (abs ty.now body.now)) }
-    ensures sides { IfOk result (λ th. right_of th.concl ≡ abs ty.now (closed 0 opening.0 ty.now (right_of inner.concl))) }
+    ensures sides { IfOk result (λ th. right_of th.concl ≡ abs ty.now (closed 0 opening.0 ty.now
+        (right_of inner.concl))) }
 {
     lam_known(alloc, defs, &opening.0, ty, &inner)
 }

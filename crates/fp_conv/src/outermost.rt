@@ -107,7 +107,8 @@ fn closed_again(
 ) -> Result<Option<Thm>, AllocError>
     requires typed { IsTyped (signature_of defs.now) (abs ty.now body.now) }
     requires none { Instance eq.now.hyps sides.now.left.now (abs ty.now body.now) → ⊥ }
-    requires unused { is_used opening.now.0 (body.now ∷ sides.now.left.now ∷ sides.now.right.now ∷ eq.now.hyps) ≡ false }
+    requires unused { is_used opening.now.0 (body.now ∷ sides.now.left.now ∷ sides.now.right.now ∷ eq.now.hyps) ≡
+        false }
     requires opened { opening.now.1 ≡ opened 0 (free opening.now.0 ty.now) body.now }
     requires inner { StaysOrBecomes defs.now eq.now sides.now opening.now.1 inner.now }
     ensures { IfOk result (StaysOrBecomes defs.now eq.now sides.now (abs ty.now body.now)) }
@@ -220,7 +221,8 @@ fn held(
     requires within { Within eq.now.defs defs.now }
     requires variable { variable.now ≡ free name.now truth_type }
     requires apart { occurs_in_any name.now truth_type eq.now.hyps ≡ false }
-    ensures { IfOk result (λ th. th ≡ record { defs = defs.now; promises = eq.now.promises; hyps = eq.now.hyps; concl = equal truth_type variable.now variable.now }) }
+    ensures { IfOk result (λ th. th ≡ record { defs = defs.now; promises = eq.now.promises; hyps = eq.now.hyps; concl
+        = equal truth_type variable.now variable.now }) }
 {
     eq.hyps();
     eq.promises();
@@ -252,8 +254,10 @@ fn with_formula(
     formula: &Term,
 ) -> Result<Thm, AllocError>
     requires within { Within th.now.defs defs.now }
-    requires given { IsGiven (from_one defs.now th.now (all_replaced (for_variable name.now formula.now) th.now.hyps) (inst_of (signature_of defs.now) (for_variable name.now formula.now) th.now.concl)) }
-    ensures { IfOk result (λ i. from_one defs.now th.now (all_replaced (for_variable name.now formula.now) th.now.hyps) (inst_of (signature_of defs.now) (for_variable name.now formula.now) th.now.concl) ≡ gives i) }
+    requires given { IsGiven (from_one defs.now th.now (all_replaced (for_variable name.now formula.now) th.now.hyps)
+        (inst_of (signature_of defs.now) (for_variable name.now formula.now) th.now.concl)) }
+    ensures { IfOk result (λ i. from_one defs.now th.now (all_replaced (for_variable name.now formula.now)
+        th.now.hyps) (inst_of (signature_of defs.now) (for_variable name.now formula.now) th.now.concl) ≡ gives i) }
 {
     let pairs = [pair(alloc, name, formula)?];
     inst_known(alloc, defs, th, &pairs)

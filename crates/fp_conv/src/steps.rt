@@ -50,7 +50,8 @@ pub(crate) fn trans_known(
     requires first_within { Within first.now.defs defs.now }
     requires second_within { Within second.now.defs defs.now }
     requires given { IsGiven (from_both defs.now first.now second.now (trans_of first.now.concl second.now.concl)) }
-    ensures { IfOk result (λ th. from_both defs.now first.now second.now (trans_of first.now.concl second.now.concl) ≡ gives th) }
+    ensures { IfOk result (λ th. from_both defs.now first.now second.now (trans_of first.now.concl second.now.concl) ≡
+        gives th) }
 {
     given(defs.trans(alloc, first, second))
 }
@@ -66,7 +67,8 @@ pub(crate) fn mk_comb_known(
     requires first_within { Within first.now.defs defs.now }
     requires second_within { Within second.now.defs defs.now }
     requires given { IsGiven (from_both defs.now first.now second.now (mk_comb_of first.now.concl second.now.concl)) }
-    ensures { IfOk result (λ th. from_both defs.now first.now second.now (mk_comb_of first.now.concl second.now.concl) ≡ gives th) }
+    ensures { IfOk result (λ th. from_both defs.now first.now second.now
+        (mk_comb_of first.now.concl second.now.concl) ≡ gives th) }
 {
     given(defs.mk_comb(alloc, first, second))
 }
@@ -81,8 +83,10 @@ pub(crate) fn lam_known(
     body: &Thm,
 ) -> Result<Thm, AllocError>
     requires within { Within body.now.defs defs.now }
-    requires given { IsGiven (from_one defs.now body.now body.now.hyps (lam_of (signature_of defs.now) name.now ty.now body.now.hyps body.now.concl)) }
-    ensures { IfOk result (λ th. from_one defs.now body.now body.now.hyps (lam_of (signature_of defs.now) name.now ty.now body.now.hyps body.now.concl) ≡ gives th) }
+    requires given { IsGiven (from_one defs.now body.now body.now.hyps (lam_of (signature_of defs.now) name.now ty.now
+        body.now.hyps body.now.concl)) }
+    ensures { IfOk result (λ th. from_one defs.now body.now body.now.hyps (lam_of (signature_of defs.now) name.now
+        ty.now body.now.hyps body.now.concl) ≡ gives th) }
 {
     given(defs.lam(alloc, name, ty, body))
 }
@@ -109,7 +113,8 @@ pub(crate) fn eq_mp_known(
     requires first_within { Within first.now.defs defs.now }
     requires second_within { Within second.now.defs defs.now }
     requires given { IsGiven (from_both defs.now first.now second.now (eq_mp_of first.now.concl second.now.concl)) }
-    ensures { IfOk result (λ th. from_both defs.now first.now second.now (eq_mp_of first.now.concl second.now.concl) ≡ gives th) }
+    ensures { IfOk result (λ th. from_both defs.now first.now second.now (eq_mp_of first.now.concl second.now.concl) ≡
+        gives th) }
 {
     given(defs.eq_mp(alloc, first, second))
 }
@@ -143,8 +148,10 @@ pub(crate) fn inst_known(
     pairs: &[(Name, Ty, Term)],
 ) -> Result<Thm, AllocError>
     requires within { Within th.now.defs defs.now }
-    requires given { IsGiven (from_one defs.now th.now (all_replaced pairs.now th.now.hyps) (inst_of (signature_of defs.now) pairs.now th.now.concl)) }
-    ensures { IfOk result (λ i. from_one defs.now th.now (all_replaced pairs.now th.now.hyps) (inst_of (signature_of defs.now) pairs.now th.now.concl) ≡ gives i) }
+    requires given { IsGiven (from_one defs.now th.now (all_replaced pairs.now th.now.hyps)
+        (inst_of (signature_of defs.now) pairs.now th.now.concl)) }
+    ensures { IfOk result (λ i. from_one defs.now th.now (all_replaced pairs.now th.now.hyps)
+        (inst_of (signature_of defs.now) pairs.now th.now.concl) ≡ gives i) }
 {
     given(defs.inst(alloc, th, pairs))
 }
@@ -158,8 +165,10 @@ pub(crate) fn inst_ty_known(
     pairs: &[(Name, Ty)],
 ) -> Result<Thm, AllocError>
     requires within { Within th.now.defs defs.now }
-    requires given { IsGiven (from_one defs.now th.now (all_retyped_terms pairs.now th.now.hyps) (inst_ty_of (signature_of defs.now) pairs.now th.now.concl)) }
-    ensures { IfOk result (λ i. from_one defs.now th.now (all_retyped_terms pairs.now th.now.hyps) (inst_ty_of (signature_of defs.now) pairs.now th.now.concl) ≡ gives i) }
+    requires given { IsGiven (from_one defs.now th.now (all_retyped_terms pairs.now th.now.hyps)
+        (inst_ty_of (signature_of defs.now) pairs.now th.now.concl)) }
+    ensures { IfOk result (λ i. from_one defs.now th.now (all_retyped_terms pairs.now th.now.hyps)
+        (inst_ty_of (signature_of defs.now) pairs.now th.now.concl) ≡ gives i) }
 {
     given(defs.inst_ty(alloc, th, pairs))
 }
@@ -173,9 +182,11 @@ pub(crate) fn ap_arg_known(
     functions: &Thm,
     arg: &Term,
 ) -> Result<Thm, AllocError>
-    requires equation { Equates defs.now functions.now.promises functions.now.hyps fun.now (right_of functions.now.concl) functions.now }
+    requires equation { Equates defs.now functions.now.promises functions.now.hyps fun.now
+        (right_of functions.now.concl) functions.now }
     requires typed { IsTyped (signature_of defs.now) (app fun.now arg.now) }
-    ensures { IfOk result (Equates defs.now functions.now.promises functions.now.hyps (app fun.now arg.now) (app (right_of functions.now.concl) arg.now)) }
+    ensures { IfOk result (Equates defs.now functions.now.promises functions.now.hyps (app fun.now arg.now)
+        (app (right_of functions.now.concl) arg.now)) }
 {
     let same = refl_known(alloc, defs, arg)?;
     mk_comb_known(alloc, defs, functions, &same)
@@ -190,9 +201,11 @@ pub(crate) fn ap_known(
     arg: &Term,
     arguments: &Thm,
 ) -> Result<Thm, AllocError>
-    requires equation { Equates defs.now arguments.now.promises arguments.now.hyps arg.now (right_of arguments.now.concl) arguments.now }
+    requires equation { Equates defs.now arguments.now.promises arguments.now.hyps arg.now
+        (right_of arguments.now.concl) arguments.now }
     requires typed { IsTyped (signature_of defs.now) (app fun.now arg.now) }
-    ensures { IfOk result (Equates defs.now arguments.now.promises arguments.now.hyps (app fun.now arg.now) (app fun.now (right_of arguments.now.concl))) }
+    ensures { IfOk result (Equates defs.now arguments.now.promises arguments.now.hyps (app fun.now arg.now)
+        (app fun.now (right_of arguments.now.concl))) }
 {
     arguments.hyps();
     arguments.promises();

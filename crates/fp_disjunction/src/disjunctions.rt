@@ -72,7 +72,8 @@ fn ways_at(
 ) -> Result<Thm, AllocError>
     requires disjunction { IsDisjunction defs.now a.now left.now right.now }
     requires formula { IsFormula (signature_of defs.now) term.now }
-    ensures { IfOk result (λ th. th ≡ by_one defs.now a.now (equal truth_type (app (all_ways left.now right.now) term.now) true_constant)) }
+    ensures { IfOk result (λ th. th ≡ by_one defs.now a.now (equal truth_type
+        (app (all_ways left.now right.now) term.now) true_constant)) }
 {
     let meaning = disjunction_meaning(alloc, defs, left, right)?;
     let always = convert(alloc, defs, &meaning, a)?;
@@ -108,7 +109,8 @@ fn first_passed(
 ) -> Result<Thm, AllocError>
     requires disjunction { IsDisjunction defs.now a.now left.now right.now }
     requires within { Within b.now.defs defs.now }
-    ensures { IfOk result (λ th. th ≡ by_both defs.now a.now (without_one defs.now left.now b.now b.now.concl) (implication (implication right.now b.now.concl) b.now.concl)) }
+    ensures { IfOk result (λ th. th ≡ by_both defs.now a.now (without_one defs.now left.now b.now b.now.concl)
+        (implication (implication right.now b.now.concl) b.now.concl)) }
 {
     let ways = ways(alloc, defs, a, left, right, b.concl())?;
     let first = disch_known(alloc, defs, left, b)?;

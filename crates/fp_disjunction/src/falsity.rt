@@ -42,7 +42,8 @@ fn universal_schema(alloc: Global, defs: &Defs) -> Result<Thm, AllocError>
 /// `all P = (P = (%x. T))`, for a predicate on formulas.
 pub fn universal(alloc: Global, defs: &Defs, predicate: &Term) -> Result<Thm, AllocError>
     requires { IsWellTyped (signature_of defs.now) predicate.now (predicate_type truth_type) }
-    ensures { IfOk result (λ th. th ≡ plain defs.now (equal truth_type (app (quantifier (codes "all") truth_type) predicate.now) (always_true predicate.now))) }
+    ensures { IfOk result (λ th. th ≡ plain defs.now (equal truth_type (app (quantifier (codes "all") truth_type)
+        predicate.now) (always_true predicate.now))) }
 {
     let schema = universal_schema(alloc, defs)?;
     let own = defs.refl_known(alloc, predicate)?;
@@ -51,7 +52,8 @@ pub fn universal(alloc: Global, defs: &Defs, predicate: &Term) -> Result<Thm, Al
 
 // `all (%p. p) = ((%p. p) = (%x. T))`
 fn universal_identity(alloc: Global, defs: &Defs) -> Result<Thm, AllocError>
-    ensures { IfOk result (λ th. th ≡ plain defs.now (equal truth_type (app (quantifier (codes "all") truth_type) identity) (always_true identity))) }
+    ensures { IfOk result (λ th. th ≡ plain defs.now (equal truth_type (app (quantifier (codes "all") truth_type)
+        identity) (always_true identity))) }
 {
     let predicate = identity(alloc)?;
     universal(alloc, defs, &predicate)
@@ -70,7 +72,8 @@ fn false_meaning(alloc: Global, defs: &Defs) -> Result<Thm, AllocError>
 pub fn always_at(alloc: Global, defs: &Defs, th: &Thm, term: &Term) -> Result<Thm, AllocError>
     requires always { th.now ≡ by_one defs.now th.now (always_true (left th.now.concl)) }
     requires formula { IsFormula (signature_of defs.now) term.now }
-    ensures { IfOk result (λ a. a ≡ by_one defs.now th.now (equal truth_type (app (left th.now.concl) term.now) true_constant)) }
+    ensures { IfOk result (λ a. a ≡ by_one defs.now th.now (equal truth_type (app (left th.now.concl) term.now)
+        true_constant)) }
 {
     let own = defs.refl_known(alloc, term)?;
     unfold(alloc, defs, th, &own)
@@ -130,7 +133,8 @@ pub fn is_false(alloc: Global, term: &Term) -> Result<bool, AllocError>
 /// Any formula from `F`.
 pub fn false_elim(alloc: Global, defs: &Defs, term: &Term, a: &Thm) -> Result<Thm, RuleFault>
     requires { Within a.now.defs defs.now }
-    ensures { Answers result (from_one defs.now a.now a.now.hyps (false_elim_of (signature_of defs.now) term.now a.now.concl)) }
+    ensures { Answers result (from_one defs.now a.now a.now.hyps (false_elim_of (signature_of defs.now) term.now
+        a.now.concl)) }
 {
     let term = fp_conclude::assume(alloc, defs.signature(), term)?;
     if !is_false(alloc, a.concl())? {

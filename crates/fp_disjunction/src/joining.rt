@@ -55,7 +55,8 @@ fn from_other(alloc: Global) -> Result<Term, AllocError>
 // `r` from `T --> r` itself.
 fn reached(alloc: Global, defs: &Defs, term: &Term) -> Result<Thm, AllocError>
     requires { term.now ≡ implication true_constant r_variable }
-    ensures { IfOk result (λ th. th ≡ by_one defs.now (from_itself defs.now (implication true_constant r_variable)) r_variable) }
+    ensures { IfOk result (λ th. th ≡ by_one defs.now (from_itself defs.now (implication true_constant r_variable))
+        r_variable) }
 {
     let itself = defs.assume_known(alloc, term)?;
     let truth = truth_itself(alloc, defs)?;
@@ -73,7 +74,8 @@ fn discharged_twice(
     requires within { Within a.now.defs defs.now }
     requires first { IsFormula (signature_of defs.now) first.now }
     requires second { IsFormula (signature_of defs.now) second.now }
-    ensures { IfOk result (λ th. th ≡ without_both defs.now first.now second.now a.now (implication second.now (implication first.now a.now.concl))) }
+    ensures { IfOk result (λ th. th ≡ without_both defs.now first.now second.now a.now (implication second.now
+        (implication first.now a.now.concl))) }
 {
     let once = disch_known(alloc, defs, first, a)?;
     disch_known(alloc, defs, second, &once)
@@ -316,7 +318,8 @@ pub fn disj2_known(alloc: Global, defs: &Defs, term: &Term, a: &Thm) -> Result<T
 /// `p \/ t` from `p`.
 pub fn disj1(alloc: Global, defs: &Defs, a: &Thm, term: &Term) -> Result<Thm, RuleFault>
     requires { Within a.now.defs defs.now }
-    ensures { Answers result (from_one defs.now a.now a.now.hyps (disj1_of (signature_of defs.now) a.now.concl term.now)) }
+    ensures { Answers result (from_one defs.now a.now a.now.hyps (disj1_of (signature_of defs.now) a.now.concl
+        term.now)) }
 {
     let term = fp_conclude::assume(alloc, defs.signature(), term)?;
     Ok(disj1_known(alloc, defs, a, &term)?)
@@ -325,7 +328,8 @@ pub fn disj1(alloc: Global, defs: &Defs, a: &Thm, term: &Term) -> Result<Thm, Ru
 /// `t \/ p` from `p`.
 pub fn disj2(alloc: Global, defs: &Defs, term: &Term, a: &Thm) -> Result<Thm, RuleFault>
     requires { Within a.now.defs defs.now }
-    ensures { Answers result (from_one defs.now a.now a.now.hyps (disj2_of (signature_of defs.now) term.now a.now.concl)) }
+    ensures { Answers result (from_one defs.now a.now a.now.hyps (disj2_of (signature_of defs.now) term.now
+        a.now.concl)) }
 {
     let term = fp_conclude::assume(alloc, defs.signature(), term)?;
     Ok(disj2_known(alloc, defs, &term, a)?)

@@ -28,7 +28,8 @@ use std::alloc::{AllocError, Global};
 
 // `~ p = (p --> F)`, for the variable.
 fn negation_schema(alloc: Global, defs: &Defs) -> Result<Thm, AllocError>
-    ensures { IfOk result (λ th. th ≡ plain defs.now (equal truth_type (negation p_variable) (implication p_variable false_constant))) }
+    ensures { IfOk result (λ th. th ≡ plain defs.now (equal truth_type (negation p_variable)
+        (implication p_variable false_constant))) }
 {
     let meaning = defs.connective_known(alloc, LogicalConstant::Negation)?;
     let own = own_p(alloc, defs)?;
@@ -38,7 +39,8 @@ fn negation_schema(alloc: Global, defs: &Defs) -> Result<Thm, AllocError>
 // What a negation says.
 fn negation_meaning(alloc: Global, defs: &Defs, term: &Term) -> Result<Thm, AllocError>
     requires { IsFormula (signature_of defs.now) term.now }
-    ensures { IfOk result (λ th. th ≡ plain defs.now (equal truth_type (negation term.now) (implication term.now false_constant))) }
+    ensures { IfOk result (λ th. th ≡ plain defs.now (equal truth_type (negation term.now)
+        (implication term.now false_constant))) }
 {
     let schema = negation_schema(alloc, defs)?;
     instance(alloc, defs, &schema, term, term)
@@ -73,7 +75,8 @@ fn falsity_from(
     requires both { both.now ≡ conjunction p_variable false_constant }
     requires term { term.now ≡ p_variable }
     requires falsity { falsity.now ≡ false_constant }
-    ensures { IfOk result (λ th. th ≡ by_one defs.now (from_itself defs.now (conjunction p_variable false_constant)) false_constant) }
+    ensures { IfOk result (λ th. th ≡ by_one defs.now (from_itself defs.now (conjunction p_variable false_constant))
+        false_constant) }
 {
     let itself = defs.assume_known(alloc, both)?;
     conjunct(alloc, defs, false, &itself, term, falsity)
@@ -83,7 +86,8 @@ fn falsity_from(
 fn from_falsity(alloc: Global, defs: &Defs, both: &Term, falsity: &Term) -> Result<Thm, AllocError>
     requires both { both.now ≡ conjunction p_variable false_constant }
     requires falsity { falsity.now ≡ false_constant }
-    ensures { IfOk result (λ th. th ≡ by_one defs.now (from_itself defs.now false_constant) (conjunction p_variable false_constant)) }
+    ensures { IfOk result (λ th. th ≡ by_one defs.now (from_itself defs.now false_constant)
+        (conjunction p_variable false_constant)) }
 {
     let itself = defs.assume_known(alloc, falsity)?;
     false_elim_known(alloc, defs, both, &itself)
@@ -100,7 +104,8 @@ fn contradiction_of(
     requires both { both.now ≡ conjunction p_variable false_constant }
     requires term { term.now ≡ p_variable }
     requires falsity { falsity.now ≡ false_constant }
-    ensures { IfOk result (λ th. th ≡ plain defs.now (equal truth_type (conjunction p_variable false_constant) false_constant)) }
+    ensures { IfOk result (λ th. th ≡ plain defs.now (equal truth_type (conjunction p_variable false_constant)
+        false_constant)) }
 {
     let first = from_falsity(alloc, defs, both, falsity)?;
     let second = falsity_from(alloc, defs, both, term, falsity)?;
@@ -109,7 +114,8 @@ fn contradiction_of(
 
 // `(p /\ F) = F`, for the variable.
 fn contradiction_schema(alloc: Global, defs: &Defs) -> Result<Thm, AllocError>
-    ensures { IfOk result (λ th. th ≡ plain defs.now (equal truth_type (conjunction p_variable false_constant) false_constant)) }
+    ensures { IfOk result (λ th. th ≡ plain defs.now (equal truth_type (conjunction p_variable false_constant)
+        false_constant)) }
 {
     let term = p_variable(alloc)?;
     let falsity = false_constant(alloc)?;
@@ -120,7 +126,8 @@ fn contradiction_schema(alloc: Global, defs: &Defs) -> Result<Thm, AllocError>
 // `(p /\ F) = F`
 fn contradiction(alloc: Global, defs: &Defs, term: &Term) -> Result<Thm, AllocError>
     requires { IsFormula (signature_of defs.now) term.now }
-    ensures { IfOk result (λ th. th ≡ plain defs.now (equal truth_type (conjunction term.now false_constant) false_constant)) }
+    ensures { IfOk result (λ th. th ≡ plain defs.now (equal truth_type (conjunction term.now false_constant)
+        false_constant)) }
 {
     let schema = contradiction_schema(alloc, defs)?;
     instance(alloc, defs, &schema, term, term)
@@ -129,7 +136,8 @@ fn contradiction(alloc: Global, defs: &Defs, term: &Term) -> Result<Thm, AllocEr
 // `(p /\ F) = p` from `~ p`.
 fn implied_falsity(alloc: Global, defs: &Defs, a: &Thm, term: &Term) -> Result<Thm, AllocError>
     requires { IsNegation defs.now a.now term.now }
-    ensures { IfOk result (λ th. th ≡ by_one defs.now a.now (equal truth_type (conjunction term.now false_constant) term.now)) }
+    ensures { IfOk result (λ th. th ≡ by_one defs.now a.now (equal truth_type (conjunction term.now false_constant)
+        term.now)) }
 {
     let opened = not_elim_known(alloc, defs, a, term)?;
     let falsity = false_constant(alloc)?;
@@ -138,9 +146,11 @@ fn implied_falsity(alloc: Global, defs: &Defs, a: &Thm, term: &Term) -> Result<T
 
 // `t = u` from `s = t` and `s = u`, for formulas over one list.
 fn matched(alloc: Global, defs: &Defs, first: &Thm, second: &Thm) -> Result<Thm, AllocError>
-    requires first { first.now ≡ by_one defs.now first.now (equal truth_type (left first.now.concl) (right first.now.concl)) }
+    requires first { first.now ≡ by_one defs.now first.now (equal truth_type (left first.now.concl)
+        (right first.now.concl)) }
     requires second { second.now ≡ plain defs.now (equal truth_type (left first.now.concl) (right second.now.concl)) }
-    ensures { IfOk result (λ th. th ≡ by_one defs.now first.now (equal truth_type (right first.now.concl) (right second.now.concl))) }
+    ensures { IfOk result (λ th. th ≡ by_one defs.now first.now (equal truth_type (right first.now.concl)
+        (right second.now.concl))) }
 {
     let equality = truth_equality(alloc, defs)?;
     let own = defs.refl_known(alloc, fp_conclude::left(first.concl()))?;

@@ -24,7 +24,8 @@ use std::alloc::{AllocError, Global};
 // `(%f. f p q) c = c p q`, for a chooser `c`.
 fn passed(alloc: Global, defs: &Defs, first: bool, by: &Term) -> Result<Thm, AllocError>
     requires { by.now ≡ chooser first }
-    ensures { IfOk result (λ th. th ≡ plain defs.now (equal truth_type (choice first p_variable q_variable) (app (app (chooser first) p_variable) q_variable))) }
+    ensures { IfOk result (λ th. th ≡ plain defs.now (equal truth_type (choice first p_variable q_variable)
+        (app (app (chooser first) p_variable) q_variable))) }
 {
     let function = applying_variables(alloc)?;
     let redex = apply(alloc, &function, by)?;
@@ -44,7 +45,8 @@ fn chosen_once(alloc: Global, defs: &Defs, first: bool, by: &Term) -> Result<Thm
 // `c p q = x`, for the chooser `c`, with `p` or `q` for `x`.
 fn chosen_twice(alloc: Global, defs: &Defs, first: bool, by: &Term) -> Result<Thm, AllocError>
     requires { by.now ≡ chooser first }
-    ensures { IfOk result (λ th. th ≡ plain defs.now (equal truth_type (app (app (chooser first) p_variable) q_variable) (chosen first p_variable q_variable))) }
+    ensures { IfOk result (λ th. th ≡ plain defs.now (equal truth_type
+        (app (app (chooser first) p_variable) q_variable) (chosen first p_variable q_variable))) }
 {
     let once = chosen_once(alloc, defs, first, by)?;
     let second = own_q(alloc, defs)?;
@@ -71,7 +73,8 @@ pub fn choice_schema(alloc: Global, defs: &Defs, first: bool) -> Result<Thm, All
 
 // `c = c`, for a chooser `c`.
 fn own_chooser(alloc: Global, defs: &Defs, first: bool) -> Result<Thm, AllocError>
-    ensures { IfOk result (λ th. th ≡ plain defs.now (equal (binary_type truth_type truth_type) (chooser first) (chooser first))) }
+    ensures { IfOk result (λ th. th ≡ plain defs.now (equal (binary_type truth_type truth_type) (chooser first)
+        (chooser first))) }
 {
     let by = chooser(alloc, first)?;
     defs.refl_known(alloc, &by)
@@ -102,7 +105,8 @@ fn choices(
     right: &Term,
 ) -> Result<Thm, AllocError>
     requires { IsConjunction defs.now a.now left.now right.now }
-    ensures { IfOk result (λ th. th ≡ by_one defs.now a.now (equal truth_type (choice first left.now right.now) (choice first true_constant true_constant))) }
+    ensures { IfOk result (λ th. th ≡ by_one defs.now a.now (equal truth_type (choice first left.now right.now)
+        (choice first true_constant true_constant))) }
 {
     let both = both_hold(alloc, defs, a, left, right)?;
     let own = own_chooser(alloc, defs, first)?;
@@ -121,7 +125,8 @@ fn choice_of(
     requires schema { schema.now ≡ choice_schema defs.now first }
     requires left { IsFormula (signature_of defs.now) left.now }
     requires right { IsFormula (signature_of defs.now) right.now }
-    ensures { IfOk result (λ th. th ≡ plain defs.now (equal truth_type (choice first left.now right.now) (chosen first left.now right.now))) }
+    ensures { IfOk result (λ th. th ≡ plain defs.now (equal truth_type (choice first left.now right.now)
+        (chosen first left.now right.now))) }
 {
     let _ = first;
     instance(alloc, defs, schema, left, right)
@@ -135,7 +140,8 @@ pub fn truth_choice(
     first: bool,
 ) -> Result<Thm, AllocError>
     requires { schema.now ≡ choice_schema defs.now first }
-    ensures { IfOk result (λ th. th ≡ plain defs.now (equal truth_type (choice first true_constant true_constant) true_constant)) }
+    ensures { IfOk result (λ th. th ≡ plain defs.now (equal truth_type (choice first true_constant true_constant)
+        true_constant)) }
 {
     let truth = true_constant(alloc)?;
     choice_of(alloc, defs, schema, first, &truth, &truth)
@@ -168,7 +174,9 @@ fn choosing(
 ) -> Result<Thm, AllocError>
     requires left { IsFormula (signature_of defs.now) left.now }
     requires right { IsFormula (signature_of defs.now) right.now }
-    ensures { IfOk result (λ th. th ≡ plain defs.now (equal truth_type (equal truth_type (choice first left.now right.now) (choice first true_constant true_constant)) (chosen first left.now right.now))) }
+    ensures { IfOk result (λ th. th ≡ plain defs.now (equal truth_type (equal truth_type
+        (choice first left.now right.now) (choice first true_constant true_constant))
+        (chosen first left.now right.now))) }
 {
     lemma_at(alloc, defs, Lemma::Choice(first), left, right)
 }

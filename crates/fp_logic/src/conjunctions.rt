@@ -21,7 +21,8 @@ use std::alloc::{AllocError, Global};
 // `and = and`
 #[tactic(auto, unfolding(fp_term::specs::Names::is_name))]
 fn own_and(alloc: Global, defs: &Defs) -> Result<Thm, AllocError>
-    ensures { IfOk result (λ th. th ≡ plain defs.now (equal (binary_type truth_type truth_type) (connective (codes "and")) (connective (codes "and")))) }
+    ensures { IfOk result (λ th. th ≡ plain defs.now (equal (binary_type truth_type truth_type)
+        (connective (codes "and")) (connective (codes "and")))) }
 {
     let and = connective(alloc, b"and")?;
     defs.refl_known(alloc, &and)
@@ -31,7 +32,8 @@ fn own_and(alloc: Global, defs: &Defs) -> Result<Thm, AllocError>
 fn conjoined_sides(alloc: Global, defs: &Defs, first: &Thm, second: &Thm) -> Result<Thm, AllocError>
     requires first { first.now ≡ by_one defs.now first.now (held (right first.now.concl)) }
     requires second { second.now ≡ by_one defs.now second.now (held (right second.now.concl)) }
-    ensures { IfOk result (λ th. th ≡ by_both defs.now first.now second.now (equal truth_type (conjunction true_constant true_constant) (conjunction (right first.now.concl) (right second.now.concl)))) }
+    ensures { IfOk result (λ th. th ≡ by_both defs.now first.now second.now (equal truth_type
+        (conjunction true_constant true_constant) (conjunction (right first.now.concl) (right second.now.concl)))) }
 {
     let _hyps = first.hyps();
     let _promises = first.promises();
@@ -44,7 +46,8 @@ fn conjoined_sides(alloc: Global, defs: &Defs, first: &Thm, second: &Thm) -> Res
 fn conjoined_truths(alloc: Global, defs: &Defs, a: &Thm, b: &Thm) -> Result<Thm, AllocError>
     requires first_within { Within a.now.defs defs.now }
     requires second_within { Within b.now.defs defs.now }
-    ensures { IfOk result (λ th. th ≡ by_both defs.now a.now b.now (equal truth_type (conjunction true_constant true_constant) (conjunction a.now.concl b.now.concl))) }
+    ensures { IfOk result (λ th. th ≡ by_both defs.now a.now b.now (equal truth_type
+        (conjunction true_constant true_constant) (conjunction a.now.concl b.now.concl))) }
 {
     let first = hold(alloc, defs, a)?;
     let second = hold(alloc, defs, b)?;
@@ -53,7 +56,8 @@ fn conjoined_truths(alloc: Global, defs: &Defs, a: &Thm, b: &Thm) -> Result<Thm,
 
 // What follows from `(T /\ T) = p`.
 fn conclude_from(alloc: Global, defs: &Defs, th: &Thm) -> Result<Thm, AllocError>
-    requires { th.now ≡ by_one defs.now th.now (equal truth_type (conjunction true_constant true_constant) (right th.now.concl)) }
+    requires { th.now ≡ by_one defs.now th.now (equal truth_type (conjunction true_constant true_constant)
+        (right th.now.concl)) }
     ensures { IfOk result (λ p. p ≡ by_one defs.now th.now (right th.now.concl)) }
 {
     let truths = recalled(alloc, defs, Lemma::Truths)?;

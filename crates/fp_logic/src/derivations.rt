@@ -26,7 +26,8 @@ use std::alloc::{AllocError, Global};
 // `right = left` from `left = right` itself.
 fn turned_round(alloc: Global, defs: &Defs, left: &Term, right: &Term) -> Result<Thm, AllocError>
     requires { IsFormula (signature_of defs.now) (equivalent left.now right.now) }
-    ensures { IfOk result (λ th. th ≡ by_one defs.now (from_itself defs.now (equivalent left.now right.now)) (equivalent right.now left.now)) }
+    ensures { IfOk result (λ th. th ≡ by_one defs.now (from_itself defs.now (equivalent left.now right.now))
+        (equivalent right.now left.now)) }
 {
     let ty = truth_type(alloc)?;
     let equation = equivalent(alloc, left, right)?;
@@ -85,7 +86,8 @@ fn untrue_schema(alloc: Global, defs: &Defs) -> Result<Thm, AllocError>
 
 // `(T /\ T) = ((%f. f T T) = (%f. f T T))`
 fn truths_meaning(alloc: Global, defs: &Defs) -> Result<Thm, AllocError>
-    ensures { IfOk result (λ th. th ≡ plain defs.now (equivalent (conjunction true_constant true_constant) (both_true true_constant true_constant))) }
+    ensures { IfOk result (λ th. th ≡ plain defs.now (equivalent (conjunction true_constant true_constant)
+        (both_true true_constant true_constant))) }
 {
     let truth = true_constant(alloc)?;
     let schema = conjunction_schema(alloc, defs)?;
@@ -111,8 +113,11 @@ fn truths_schema(alloc: Global, defs: &Defs) -> Result<Thm, AllocError>
 
 // `((%f. f p q) c = (%f. f T T) c) = (x = T)`, for the chooser `c`, by `(%f. f p q) c = x`.
 fn choices_by(alloc: Global, defs: &Defs, first: bool, schema: &Thm) -> Result<Thm, AllocError>
-    requires { schema.now ≡ plain defs.now (equivalent (choice first p_variable q_variable) (chosen first p_variable q_variable)) }
-    ensures { IfOk result (λ th. th ≡ plain defs.now (equivalent (equivalent (choice first p_variable q_variable) (choice first true_constant true_constant)) (equivalent (chosen first p_variable q_variable) true_constant))) }
+    requires { schema.now ≡ plain defs.now (equivalent (choice first p_variable q_variable)
+        (chosen first p_variable q_variable)) }
+    ensures { IfOk result (λ th. th ≡ plain defs.now (equivalent (equivalent (choice first p_variable q_variable)
+        (choice first true_constant true_constant)) (equivalent (chosen first p_variable q_variable) true_constant)))
+        }
 {
     let equality = truth_equality(alloc, defs)?;
     let applied = defs.mk_comb_known(alloc, &equality, schema)?;
@@ -122,7 +127,8 @@ fn choices_by(alloc: Global, defs: &Defs, first: bool, schema: &Thm) -> Result<T
 
 // `(x = T) = x`, for `p` or `q`.
 fn untrue_chosen(alloc: Global, defs: &Defs, first: bool) -> Result<Thm, AllocError>
-    ensures { IfOk result (λ th. th ≡ plain defs.now (equivalent (equivalent (chosen first p_variable q_variable) true_constant) (chosen first p_variable q_variable))) }
+    ensures { IfOk result (λ th. th ≡ plain defs.now (equivalent (equivalent (chosen first p_variable q_variable)
+        true_constant) (chosen first p_variable q_variable))) }
 {
     let variable = chosen(alloc, first)?;
     let schema = untrue_schema(alloc, defs)?;

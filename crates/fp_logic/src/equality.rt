@@ -33,7 +33,8 @@ pub fn sym(alloc: Global, defs: &Defs, a: &Thm) -> Result<Thm, RuleFault>
 pub fn ap_known(alloc: Global, defs: &Defs, term: &Term, a: &Thm) -> Result<Thm, AllocError>
     requires within { Within a.now.defs defs.now }
     requires equation { IsEquation a.now.concl }
-    requires typed { (s : Typ) × IsWellTyped (signature_of defs.now) term.now (function_type (side_type a.now.concl) s) }
+    requires typed { (s : Typ) × IsWellTyped (signature_of defs.now) term.now (function_type
+        (side_type a.now.concl) s) }
     ensures { IfOk result (λ th. (s : Typ) → type_under [] term.now ≡ Some (function_type (side_type a.now.concl) s) →
         th ≡ by_one defs.now a.now (equal s (app term.now (left a.now.concl)) (app term.now (right a.now.concl)))) }
 {
@@ -47,7 +48,8 @@ pub fn ap_known(alloc: Global, defs: &Defs, term: &Term, a: &Thm) -> Result<Thm,
 pub fn ap_arg_known(alloc: Global, defs: &Defs, a: &Thm, term: &Term) -> Result<Thm, AllocError>
     requires within { Within a.now.defs defs.now }
     requires typed { (s : Typ) × IsWellTyped (signature_of defs.now) term.now s × IsEquationOn s a.now.concl }
-    ensures { IfOk result (λ th. th ≡ by_one defs.now a.now (equal (target (side_type a.now.concl)) (app (left a.now.concl) term.now) (app (right a.now.concl) term.now))) }
+    ensures { IfOk result (λ th. th ≡ by_one defs.now a.now (equal (target (side_type a.now.concl))
+        (app (left a.now.concl) term.now) (app (right a.now.concl) term.now))) }
 {
     let own = defs.refl_known(alloc, term)?;
     defs.mk_comb_known(alloc, a, &own)
@@ -56,7 +58,8 @@ pub fn ap_arg_known(alloc: Global, defs: &Defs, a: &Thm, term: &Term) -> Result<
 /// `t s = t u` from `s = u`.
 pub fn ap(alloc: Global, defs: &Defs, term: &Term, a: &Thm) -> Result<Thm, RuleFault>
     requires { Within a.now.defs defs.now }
-    ensures { Answers result (from_one defs.now a.now a.now.hyps (ap_of (signature_of defs.now) term.now a.now.concl)) }
+    ensures { Answers result (from_one defs.now a.now a.now.hyps (ap_of (signature_of defs.now) term.now a.now.concl))
+        }
 {
     let _hyps = a.hyps();
     let _promises = a.promises();
@@ -67,7 +70,8 @@ pub fn ap(alloc: Global, defs: &Defs, term: &Term, a: &Thm) -> Result<Thm, RuleF
 /// `f t = g t` from `f = g`.
 pub fn ap_arg(alloc: Global, defs: &Defs, a: &Thm, term: &Term) -> Result<Thm, RuleFault>
     requires { Within a.now.defs defs.now }
-    ensures { Answers result (from_one defs.now a.now a.now.hyps (ap_arg_of (signature_of defs.now) a.now.concl term.now)) }
+    ensures { Answers result (from_one defs.now a.now a.now.hyps (ap_arg_of (signature_of defs.now) a.now.concl
+        term.now)) }
 {
     let own = defs.refl(alloc, term)?;
     defs.mk_comb(alloc, a, &own)

@@ -21,7 +21,8 @@ fn reduced_right(alloc: Global, defs: &Defs, th: &Thm) -> Result<Thm, AllocError
     requires over { th.now.defs ≡ defs.now }
     requires equation { IsEquation th.now.concl }
     requires redex { IsRedex (right th.now.concl) }
-    ensures { IfOk result (λ r. r ≡ plain defs.now (equal (side_type th.now.concl) (right th.now.concl) (opened 0 (argument_in (right th.now.concl)) (body_in (function_in (right th.now.concl)))))) }
+    ensures { IfOk result (λ r. r ≡ plain defs.now (equal (side_type th.now.concl) (right th.now.concl)
+        (opened 0 (argument_in (right th.now.concl)) (body_in (function_in (right th.now.concl)))))) }
 {
     defs.beta_known(alloc, right(th.concl()))
 }
@@ -55,7 +56,8 @@ pub fn turn(
     own: &Thm,
 ) -> Result<Thm, AllocError>
     requires { CanTurn defs.now equality.now first.now second.now own.now }
-    ensures { IfOk result (λ th. th ≡ by_both defs.now first.now second.now (turned first.now.concl second.now.concl)) }
+    ensures { IfOk result (λ th. th ≡ by_both defs.now first.now second.now
+        (turned first.now.concl second.now.concl)) }
 {
     let _hyps = first.hyps();
     let _promises = first.promises();

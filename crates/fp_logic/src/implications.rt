@@ -48,7 +48,8 @@ fn conjunction_from(
     right: &Term,
 ) -> Result<Thm, AllocError>
     requires { IsImplication defs.now a.now left.now right.now }
-    ensures { IfOk result (λ th. th ≡ by_one defs.now a.now (equal truth_type left.now (conjunction left.now right.now))) }
+    ensures { IfOk result (λ th. th ≡ by_one defs.now a.now (equal truth_type left.now
+        (conjunction left.now right.now))) }
 {
     let meaning = lemma_at(alloc, defs, Lemma::Turned, left, right)?;
     convert(alloc, defs, &meaning, a)
@@ -124,7 +125,8 @@ pub fn undisch(alloc: Global, defs: &Defs, a: &Thm) -> Result<Thm, RuleFault>
 fn with_assumption(alloc: Global, defs: &Defs, term: &Term, a: &Thm) -> Result<Thm, AllocError>
     requires within { Within a.now.defs defs.now }
     requires formula { IsFormula (signature_of defs.now) term.now }
-    ensures { IfOk result (λ th. th ≡ by_both defs.now (from_itself defs.now term.now) a.now (conjunction term.now a.now.concl)) }
+    ensures { IfOk result (λ th. th ≡ by_both defs.now (from_itself defs.now term.now) a.now
+        (conjunction term.now a.now.concl)) }
 {
     let itself = defs.assume_known(alloc, term)?;
     conj_known(alloc, defs, &itself, a)
@@ -134,7 +136,8 @@ fn with_assumption(alloc: Global, defs: &Defs, term: &Term, a: &Thm) -> Result<T
 fn first_assumed(alloc: Global, defs: &Defs, left: &Term, right: &Term) -> Result<Thm, AllocError>
     requires left { IsFormula (signature_of defs.now) left.now }
     requires right { IsFormula (signature_of defs.now) right.now }
-    ensures { IfOk result (λ th. th ≡ by_one defs.now (from_itself defs.now (conjunction left.now right.now)) left.now) }
+    ensures { IfOk result (λ th. th ≡ by_one defs.now (from_itself defs.now (conjunction left.now right.now))
+        left.now) }
 {
     let both = conjunction(alloc, left, right)?;
     let itself = defs.assume_known(alloc, &both)?;
@@ -168,7 +171,8 @@ pub fn disch_known(alloc: Global, defs: &Defs, term: &Term, a: &Thm) -> Result<T
 /// `t --> p` from `p`, without the hypothesis `t`.
 pub fn disch(alloc: Global, defs: &Defs, term: &Term, a: &Thm) -> Result<Thm, RuleFault>
     requires { Within a.now.defs defs.now }
-    ensures { Answers result (from_one defs.now a.now (without term.now a.now.hyps) (disch_of (signature_of defs.now) term.now a.now.concl)) }
+    ensures { Answers result (from_one defs.now a.now (without term.now a.now.hyps)
+        (disch_of (signature_of defs.now) term.now a.now.concl)) }
 {
     let term = fp_conclude::assume(alloc, defs.signature(), term)?;
     Ok(disch_known(alloc, defs, &term, a)?)

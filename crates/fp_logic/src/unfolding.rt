@@ -52,7 +52,8 @@ pub fn unfold_twice(alloc: Global, defs: &Defs, th: &Thm) -> Result<Thm, AllocEr
 
 /// `(p /\ q) = ((%f. f p q) = (%f. f T T))`
 pub fn conjunction_schema(alloc: Global, defs: &Defs) -> Result<Thm, AllocError>
-    ensures { IfOk result (λ th. th ≡ plain defs.now (equal truth_type (conjunction p_variable q_variable) (both_true p_variable q_variable))) }
+    ensures { IfOk result (λ th. th ≡ plain defs.now (equal truth_type (conjunction p_variable q_variable)
+        (both_true p_variable q_variable))) }
 {
     let meaning = defs.connective_known(alloc, LogicalConstant::Conjunction)?;
     unfold_twice(alloc, defs, &meaning)
@@ -60,7 +61,8 @@ pub fn conjunction_schema(alloc: Global, defs: &Defs) -> Result<Thm, AllocError>
 
 /// `(p --> q) = ((p /\ q) = p)`
 pub fn implication_schema(alloc: Global, defs: &Defs) -> Result<Thm, AllocError>
-    ensures { IfOk result (λ th. th ≡ plain defs.now (equal truth_type (implication p_variable q_variable) (implied p_variable q_variable))) }
+    ensures { IfOk result (λ th. th ≡ plain defs.now (equal truth_type (implication p_variable q_variable)
+        (implied p_variable q_variable))) }
 {
     let meaning = defs.connective_known(alloc, LogicalConstant::Implication)?;
     unfold_twice(alloc, defs, &meaning)
@@ -75,7 +77,8 @@ pub fn conjunction_meaning(
 ) -> Result<Thm, AllocError>
     requires first { IsFormula (signature_of defs.now) left.now }
     requires second { IsFormula (signature_of defs.now) right.now }
-    ensures { IfOk result (λ th. th ≡ plain defs.now (equal truth_type (conjunction left.now right.now) (both_true left.now right.now))) }
+    ensures { IfOk result (λ th. th ≡ plain defs.now (equal truth_type (conjunction left.now right.now)
+        (both_true left.now right.now))) }
 {
     lemma_at(alloc, defs, Lemma::Conjoined, left, right)
 }
@@ -89,7 +92,8 @@ pub fn implication_meaning(
 ) -> Result<Thm, AllocError>
     requires first { IsFormula (signature_of defs.now) left.now }
     requires second { IsFormula (signature_of defs.now) right.now }
-    ensures { IfOk result (λ th. th ≡ plain defs.now (equal truth_type (implication left.now right.now) (implied left.now right.now))) }
+    ensures { IfOk result (λ th. th ≡ plain defs.now (equal truth_type (implication left.now right.now)
+        (implied left.now right.now))) }
 {
     lemma_at(alloc, defs, Lemma::Implied, left, right)
 }

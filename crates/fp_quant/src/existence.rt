@@ -22,7 +22,8 @@ use std::alloc::{AllocError, Global};
 
 // `ex P = (!q. (!x. P x --> q) --> q)`
 fn meaning(alloc: Global, defs: &Defs) -> Result<Thm, AllocError>
-    ensures { IfOk result (λ th. th ≡ plain defs.now (equal truth_type (some_such alpha predicate_variable) (reaches_all alpha predicate_variable))) }
+    ensures { IfOk result (λ th. th ≡ plain defs.now (equal truth_type (some_such alpha predicate_variable)
+        (reaches_all alpha predicate_variable))) }
 {
     let meaning = defs.connective_known(alloc, LogicalConstant::Existential)?;
     let predicate = predicate_variable(alloc)?;
@@ -44,7 +45,8 @@ fn implied(alloc: Global, defs: &Defs, a: &Thm) -> Result<Thm, AllocError>
 // `P x --> q` from `!x. P x --> q` itself, by the terms.
 fn implied_by(alloc: Global, defs: &Defs, each: &Term) -> Result<Thm, AllocError>
     requires { each.now ≡ each_implies alpha predicate_variable q_variable }
-    ensures { IfOk result (λ th. th ≡ by_one defs.now (from_itself defs.now (each_implies alpha predicate_variable q_variable)) (implication holds q_variable)) }
+    ensures { IfOk result (λ th. th ≡ by_one defs.now (from_itself defs.now
+        (each_implies alpha predicate_variable q_variable)) (implication holds q_variable)) }
 {
     let itself = defs.assume_known(alloc, each)?;
     implied(alloc, defs, &itself)
@@ -54,7 +56,8 @@ fn implied_by(alloc: Global, defs: &Defs, each: &Term) -> Result<Thm, AllocError
 fn reached(alloc: Global, defs: &Defs, each: &Term, held: &Term) -> Result<Thm, AllocError>
     requires each { each.now ≡ each_implies alpha predicate_variable q_variable }
     requires held { held.now ≡ holds }
-    ensures { IfOk result (λ th. th ≡ by_both defs.now (from_itself defs.now (each_implies alpha predicate_variable q_variable)) (from_itself defs.now holds) q_variable) }
+    ensures { IfOk result (λ th. th ≡ by_both defs.now (from_itself defs.now
+        (each_implies alpha predicate_variable q_variable)) (from_itself defs.now holds) q_variable) }
 {
     let implied = implied_by(alloc, defs, each)?;
     let itself = defs.assume_known(alloc, held)?;
@@ -64,7 +67,8 @@ fn reached(alloc: Global, defs: &Defs, each: &Term, held: &Term) -> Result<Thm, 
 // `(!x. P x --> q) --> q` from `P x` itself.
 fn reaches(alloc: Global, defs: &Defs, held: &Term) -> Result<Thm, AllocError>
     requires { held.now ≡ holds }
-    ensures { IfOk result (λ th. th ≡ by_one defs.now (from_itself defs.now holds) (reaches alpha predicate_variable q_variable)) }
+    ensures { IfOk result (λ th. th ≡ by_one defs.now (from_itself defs.now holds)
+        (reaches alpha predicate_variable q_variable)) }
 {
     let each = each_implies(alloc)?;
     let reached = reached(alloc, defs, &each, held)?;
@@ -75,7 +79,8 @@ fn reaches(alloc: Global, defs: &Defs, held: &Term) -> Result<Thm, AllocError>
 #[tactic(auto, unfolding(fp_term::specs::Names::is_name))]
 fn reaches_all(alloc: Global, defs: &Defs, held: &Term) -> Result<Thm, AllocError>
     requires { held.now ≡ holds }
-    ensures { IfOk result (λ th. th ≡ by_one defs.now (from_itself defs.now holds) (reaches_all alpha predicate_variable)) }
+    ensures { IfOk result (λ th. th ≡ by_one defs.now (from_itself defs.now holds)
+        (reaches_all alpha predicate_variable)) }
 {
     let reaches = reaches(alloc, defs, held)?;
     let name = Name::of(alloc, b"q")?;
@@ -86,7 +91,8 @@ fn reaches_all(alloc: Global, defs: &Defs, held: &Term) -> Result<Thm, AllocErro
 // `ex P` from `P x` itself.
 fn some_from(alloc: Global, defs: &Defs, held: &Term) -> Result<Thm, AllocError>
     requires { held.now ≡ holds }
-    ensures { IfOk result (λ th. th ≡ by_one defs.now (from_itself defs.now holds) (some_such alpha predicate_variable)) }
+    ensures { IfOk result (λ th. th ≡ by_one defs.now (from_itself defs.now holds)
+        (some_such alpha predicate_variable)) }
 {
     let all = reaches_all(alloc, defs, held)?;
     let meaning = meaning(alloc, defs)?;
@@ -105,7 +111,8 @@ pub(crate) fn introduction(alloc: Global, defs: &Defs) -> Result<Thm, AllocError
 // `!q. (!x. P x --> q) --> q` from `ex P` itself.
 fn opened(alloc: Global, defs: &Defs, some: &Term) -> Result<Thm, AllocError>
     requires { some.now ≡ some_such alpha predicate_variable }
-    ensures { IfOk result (λ th. th ≡ by_one defs.now (from_itself defs.now (some_such alpha predicate_variable)) (reaches_all alpha predicate_variable)) }
+    ensures { IfOk result (λ th. th ≡ by_one defs.now (from_itself defs.now (some_such alpha predicate_variable))
+        (reaches_all alpha predicate_variable)) }
 {
     let meaning = meaning(alloc, defs)?;
     let itself = defs.assume_known(alloc, some)?;
@@ -115,7 +122,8 @@ fn opened(alloc: Global, defs: &Defs, some: &Term) -> Result<Thm, AllocError>
 // `(!x. P x --> q) --> q` from `ex P` itself.
 fn reaches_from(alloc: Global, defs: &Defs, some: &Term) -> Result<Thm, AllocError>
     requires { some.now ≡ some_such alpha predicate_variable }
-    ensures { IfOk result (λ th. th ≡ by_one defs.now (from_itself defs.now (some_such alpha predicate_variable)) (reaches alpha predicate_variable q_variable)) }
+    ensures { IfOk result (λ th. th ≡ by_one defs.now (from_itself defs.now (some_such alpha predicate_variable))
+        (reaches alpha predicate_variable q_variable)) }
 {
     let opened = opened(alloc, defs, some)?;
     let ty = truth_type(alloc)?;
@@ -132,7 +140,8 @@ fn reaches_from(alloc: Global, defs: &Defs, some: &Term) -> Result<Thm, AllocErr
 
 /// `ex P --> (!x. P x --> q) --> q`
 pub(crate) fn elimination(alloc: Global, defs: &Defs) -> Result<Thm, AllocError>
-    ensures { IfOk result (λ th. th ≡ plain defs.now (implication (some_such alpha predicate_variable) (reaches alpha predicate_variable q_variable))) }
+    ensures { IfOk result (λ th. th ≡ plain defs.now (implication (some_such alpha predicate_variable)
+        (reaches alpha predicate_variable q_variable))) }
 {
     let some = some(alloc)?;
     let reaches = reaches_from(alloc, defs, &some)?;

@@ -35,7 +35,8 @@ fn unknown_in_either<'a>(
     first: &'a Term,
     second: &'a Term,
 ) -> Result<Option<&'a Name>, AllocError>
-    ensures { IfOk result (λ o. option_copied o ≡ first_of (unknown_in signature.now first.now) (unknown_in signature.now second.now)) }
+    ensures { IfOk result (λ o. option_copied o ≡ first_of (unknown_in signature.now first.now)
+        (unknown_in signature.now second.now)) }
 {
     match signature.unknown_name(alloc, first)? {
         Some(name) => Ok(Some(name)),
@@ -74,7 +75,8 @@ fn witnessed_by(
     requires within { Within a.now.defs defs.now }
     requires typed { witness_type (signature_of defs.now) term.now witness.now ≡ gives of_witness.now }
     requires parts { existence_parts term.now ≡ Some (ty.now, body.now) }
-    ensures { Answers result (from_one defs.now a.now a.now.hyps (witnessed term.now witness.now of_witness.now a.now.concl (ty.now, body.now))) }
+    ensures { Answers result (from_one defs.now a.now a.now.hyps (witnessed term.now witness.now of_witness.now
+        a.now.concl (ty.now, body.now))) }
 {
     let held = open_with(alloc, body, witness)?;
     if !same(&held, a.concl()) {
@@ -96,7 +98,8 @@ pub fn exists(
     a: &Thm,
 ) -> Result<Thm, RuleFault>
     requires { Within a.now.defs defs.now }
-    ensures { Answers result (from_one defs.now a.now a.now.hyps (exists_of (signature_of defs.now) term.now witness.now a.now.concl)) }
+    ensures { Answers result (from_one defs.now a.now a.now.hyps (exists_of (signature_of defs.now) term.now
+        witness.now a.now.concl)) }
 {
     let of_witness = witness_type(alloc, defs.signature(), term, witness)?;
     let parts = existence_parts(alloc, term)?;
@@ -123,7 +126,8 @@ fn is_free(
     b: &Thm,
     body: &Term,
 ) -> Result<bool, AllocError>
-    ensures { IfOk result (λ yes. yes ≡ occurs_in_any name.now ty.now (b.now.concl ∷ a.now.concl ∷ without (opened 0 (free name.now ty.now) body.now) b.now.hyps)) }
+    ensures { IfOk result (λ yes. yes ≡ occurs_in_any name.now ty.now (b.now.concl ∷ a.now.concl ∷ without
+        (opened 0 (free name.now ty.now) body.now) b.now.hyps)) }
 {
     let held = held_by(alloc, name, ty, body)?;
     let rest = without(alloc, &held, b.hyps())?;

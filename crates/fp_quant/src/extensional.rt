@@ -27,7 +27,8 @@ use std::alloc::{AllocError, Global};
 fn eta_schema(alloc: Global, defs: &Defs, from: &Ty, to: &Ty) -> Result<Thm, AllocError>
     requires first { IsType (signature_of defs.now) from.now }
     requires second { IsType (signature_of defs.now) to.now }
-    ensures { IfOk result (λ th. th ≡ plain defs.now (eta_at from.now to.now (free (codes "t") (function_type from.now to.now)))) }
+    ensures { IfOk result (λ th. th ≡ plain defs.now (eta_at from.now to.now (free (codes "t")
+        (function_type from.now to.now)))) }
 {
     let axiom = defs.axiom_known(alloc, Axiom::Eta)?;
     retyped_at_both(alloc, defs, &axiom, from, to)
@@ -174,7 +175,8 @@ fn same_functions(
     requires within { Within a.now.defs defs.now }
     requires known { IsType (signature_of defs.now) functions.now.from.now }
     requires shape { a.now.concl ≡ alike_at name.now functions.now }
-    ensures { Answers result (from_one defs.now a.now a.now.hyps (same_functions name.now functions.now.from.now a.now.hyps functions.now.to.now functions.now.left.now functions.now.right.now)) }
+    ensures { Answers result (from_one defs.now a.now a.now.hyps (same_functions name.now functions.now.from.now
+        a.now.hyps functions.now.to.now functions.now.left.now functions.now.right.now)) }
 {
     if is_free(name, functions, a.hyps()) {
         return Err(free_in_hyps(name));
@@ -194,7 +196,8 @@ fn same_values(
     requires within { Within a.now.defs defs.now }
     requires known { IsType (signature_of defs.now) ty.now }
     requires shape { a.now.concl ≡ equal sides.now.ty.now sides.now.left.now sides.now.right.now }
-    ensures { Answers result (from_one defs.now a.now a.now.hyps (same_values name.now ty.now a.now.hyps (sides.now.ty.now, sides.now.left.now, sides.now.right.now))) }
+    ensures { Answers result (from_one defs.now a.now a.now.hyps (same_values name.now ty.now a.now.hyps
+        (sides.now.ty.now, sides.now.left.now, sides.now.right.now))) }
 {
     let Some(left) = applied_to_variable(alloc, name, ty, sides.left)? else {
         return Err(RuleFault::Shape);
@@ -214,7 +217,8 @@ fn same_values(
 /// `f = g` from `f x = g x`.
 pub fn ext(alloc: Global, defs: &Defs, name: &Name, ty: &Ty, a: &Thm) -> Result<Thm, RuleFault>
     requires { Within a.now.defs defs.now }
-    ensures { Answers result (from_one defs.now a.now a.now.hyps (ext_of (signature_of defs.now) name.now ty.now a.now.hyps a.now.concl)) }
+    ensures { Answers result (from_one defs.now a.now a.now.hyps (ext_of (signature_of defs.now) name.now ty.now
+        a.now.hyps a.now.concl)) }
 {
     if let Some(unknown) = defs.signature().unknown_in_type(ty) {
         return Err(unknown_name(unknown));

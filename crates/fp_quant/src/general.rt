@@ -21,7 +21,8 @@ use std::alloc::{AllocError, Global};
 /// `!x. p` from `p`.
 pub fn gen_all(alloc: Global, defs: &Defs, name: &Name, ty: &Ty, a: &Thm) -> Result<Thm, RuleFault>
     requires { Within a.now.defs defs.now }
-    ensures { Answers result (from_one defs.now a.now a.now.hyps (gen_all_of (signature_of defs.now) name.now ty.now a.now.hyps a.now.concl)) }
+    ensures { Answers result (from_one defs.now a.now a.now.hyps (gen_all_of (signature_of defs.now) name.now ty.now
+        a.now.hyps a.now.concl)) }
 {
     if let Some(unknown) = defs.signature().unknown_in_type(ty) {
         return Err(unknown_name(unknown));
@@ -66,7 +67,8 @@ fn specialized_at(
     requires within { Within a.now.defs defs.now }
     requires shape { a.now.concl ≡ app (quantifier (codes "all") ty.now) predicate.now }
     requires typed { typed_over (signature_of defs.now) term.now ≡ gives of_term.now }
-    ensures { Answers result (from_one defs.now a.now a.now.hyps (specialized_at term.now of_term.now (ty.now, predicate.now))) }
+    ensures { Answers result (from_one defs.now a.now a.now.hyps (specialized_at term.now of_term.now
+        (ty.now, predicate.now))) }
 {
     if !of_term.equals(ty) {
         return Err(RuleFault::IllTyped(Place::here(alloc)));
@@ -78,7 +80,8 @@ fn specialized_at(
 #[tactic(auto, unfolding(fp_term::specs::Names::is_name))]
 pub fn spec(alloc: Global, defs: &Defs, a: &Thm, term: &Term) -> Result<Thm, RuleFault>
     requires { Within a.now.defs defs.now }
-    ensures { Answers result (from_one defs.now a.now a.now.hyps (spec_of (signature_of defs.now) a.now.concl term.now)) }
+    ensures { Answers result (from_one defs.now a.now a.now.hyps (spec_of (signature_of defs.now) a.now.concl
+        term.now)) }
 {
     let of_term = typed_over(alloc, defs.signature(), term)?;
     let Some((ty, predicate)) = quantified(alloc, b"all", a.concl())? else {

@@ -37,7 +37,8 @@ pub fn universal(
     predicate: &Term,
 ) -> Result<Thm, AllocError>
     requires { IsWellTyped (signature_of defs.now) predicate.now (predicate_type ty.now) }
-    ensures { IfOk result (λ th. th ≡ plain defs.now (equal truth_type (app (quantifier (codes "all") ty.now) predicate.now) (always ty.now predicate.now))) }
+    ensures { IfOk result (λ th. th ≡ plain defs.now (equal truth_type
+        (app (quantifier (codes "all") ty.now) predicate.now) (always ty.now predicate.now))) }
 {
     let schema = universal_schema(alloc, defs, ty)?;
     let own = defs.refl_known(alloc, predicate)?;
@@ -49,7 +50,8 @@ fn always_from(alloc: Global, defs: &Defs, name: &Name, ty: &Ty, a: &Thm) -> Res
     requires within { Within a.now.defs defs.now }
     requires known { IsType (signature_of defs.now) ty.now }
     requires apart { occurs_in_any name.now ty.now a.now.hyps ≡ false }
-    ensures { IfOk result (λ th. th ≡ by_one defs.now a.now (always ty.now (abs ty.now (closed 0 name.now ty.now a.now.concl)))) }
+    ensures { IfOk result (λ th. th ≡ by_one defs.now a.now (always ty.now
+        (abs ty.now (closed 0 name.now ty.now a.now.concl)))) }
 {
     let equation = eqt_known(alloc, defs, a)?;
     defs.lam_known(alloc, name, ty, &equation)
@@ -102,7 +104,8 @@ fn true_at(
     requires within { Within a.now.defs defs.now }
     requires shape { a.now.concl ≡ app (quantifier (codes "all") ty.now) predicate.now }
     requires typed { IsWellTyped (signature_of defs.now) term.now ty.now }
-    ensures { IfOk result (λ th. th ≡ by_one defs.now a.now (equal truth_type (app predicate.now term.now) true_constant)) }
+    ensures { IfOk result (λ th. th ≡ by_one defs.now a.now (equal truth_type (app predicate.now term.now)
+        true_constant)) }
 {
     let always = always_of(alloc, defs, a, ty, predicate)?;
     let own = defs.refl_known(alloc, term)?;

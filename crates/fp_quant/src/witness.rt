@@ -40,8 +40,10 @@ fn by_rule(alloc: Global, defs: &Defs, rule: &Thm, a: &Thm) -> Result<Thm, Alloc
 /// `(%v. p) t = p` with `t` for `v`.
 pub fn applied(alloc: Global, defs: &Defs, predicate: &Term, term: &Term) -> Result<Thm, AllocError>
     requires abstraction { IsAbstraction predicate.now }
-    requires typed { (s : Typ) × IsPredicate defs.now s predicate.now × IsWellTyped (signature_of defs.now) term.now s }
-    ensures { IfOk result (λ th. th ≡ plain defs.now (equal truth_type (app predicate.now term.now) (opened 0 term.now (body_in predicate.now)))) }
+    requires typed { (s : Typ) × IsPredicate defs.now s predicate.now × IsWellTyped (signature_of defs.now) term.now
+        s }
+    ensures { IfOk result (λ th. th ≡ plain defs.now (equal truth_type (app predicate.now term.now) (opened 0 term.now
+        (body_in predicate.now)))) }
 {
     let redex = apply(alloc, predicate, term)?;
     defs.beta_known(alloc, &redex)
@@ -58,7 +60,8 @@ pub fn held_at(
     requires within { Within a.now.defs defs.now }
     requires shape { a.now.concl ≡ opened 0 term.now (body_in predicate.now) }
     requires abstraction { IsAbstraction predicate.now }
-    requires typed { (s : Typ) × IsPredicate defs.now s predicate.now × IsWellTyped (signature_of defs.now) term.now s }
+    requires typed { (s : Typ) × IsPredicate defs.now s predicate.now × IsWellTyped (signature_of defs.now) term.now
+        s }
     ensures { IfOk result (λ th. th ≡ by_one defs.now a.now (app predicate.now term.now)) }
 {
     let equation = applied(alloc, defs, predicate, term)?;
@@ -130,7 +133,8 @@ pub fn select_known(
 ) -> Result<Thm, AllocError>
     requires existence { IsExistence defs.now a.now ty.now predicate.now }
     requires abstraction { IsAbstraction predicate.now }
-    ensures { IfOk result (λ th. th ≡ by_one defs.now a.now (opened 0 (select ty.now predicate.now) (body_in predicate.now))) }
+    ensures { IfOk result (λ th. th ≡ by_one defs.now a.now (opened 0 (select ty.now predicate.now)
+        (body_in predicate.now))) }
 {
     let held = held_at_choice(alloc, defs, a, ty, predicate)?;
     let equation = defs.beta_known(alloc, held.concl())?;
@@ -140,7 +144,8 @@ pub fn select_known(
 // `imp = imp`
 #[tactic(auto, unfolding(fp_term::specs::Names::is_name))]
 fn own_implication(alloc: Global, defs: &Defs) -> Result<Thm, AllocError>
-    ensures { IfOk result (λ th. th ≡ plain defs.now (equal (binary_type truth_type truth_type) (connective (codes "imp")) (connective (codes "imp")))) }
+    ensures { IfOk result (λ th. th ≡ plain defs.now (equal (binary_type truth_type truth_type)
+        (connective (codes "imp")) (connective (codes "imp")))) }
 {
     let imp = connective(alloc, b"imp")?;
     defs.refl_known(alloc, &imp)
@@ -153,9 +158,11 @@ fn with_conclusion(
     equation: &Thm,
     formula: &Term,
 ) -> Result<Thm, AllocError>
-    requires equation { equation.now ≡ plain defs.now (equal truth_type (left equation.now.concl) (right equation.now.concl)) }
+    requires equation { equation.now ≡ plain defs.now (equal truth_type (left equation.now.concl)
+        (right equation.now.concl)) }
     requires formula { IsFormula (signature_of defs.now) formula.now }
-    ensures { IfOk result (λ th. th ≡ plain defs.now (equal truth_type (implication (left equation.now.concl) formula.now) (implication (right equation.now.concl) formula.now))) }
+    ensures { IfOk result (λ th. th ≡ plain defs.now (equal truth_type
+        (implication (left equation.now.concl) formula.now) (implication (right equation.now.concl) formula.now))) }
 {
     let imp = own_implication(alloc, defs)?;
     let once = defs.mk_comb_known(alloc, &imp, equation)?;
@@ -165,9 +172,11 @@ fn with_conclusion(
 
 // `l --> q` from `q`, by `l = r` and without the hypothesis `r`.
 fn implied(alloc: Global, defs: &Defs, equation: &Thm, b: &Thm) -> Result<Thm, AllocError>
-    requires equation { equation.now ≡ plain defs.now (equal truth_type (left equation.now.concl) (right equation.now.concl)) }
+    requires equation { equation.now ≡ plain defs.now (equal truth_type (left equation.now.concl)
+        (right equation.now.concl)) }
     requires within { Within b.now.defs defs.now }
-    ensures { IfOk result (λ th. th ≡ without_one defs.now (right equation.now.concl) b.now (implication (left equation.now.concl) b.now.concl)) }
+    ensures { IfOk result (λ th. th ≡ without_one defs.now (right equation.now.concl) b.now
+        (implication (left equation.now.concl) b.now.concl)) }
 {
     let discharged = disch_known(alloc, defs, fp_conclude::right(equation.concl()), b)?;
     let turned = with_conclusion(alloc, defs, equation, b.concl())?;
@@ -186,10 +195,12 @@ fn each_implied(
     requires predicate { IsPredicate defs.now ty.now predicate.now }
     requires abstraction { IsAbstraction predicate.now }
     requires within { Within b.now.defs defs.now }
-    requires apart { occurs_in_any name.now ty.now (without (opened 0 (free name.now ty.now) (body_in predicate.now)) b.now.hyps) ≡ false }
+    requires apart { occurs_in_any name.now ty.now (without (opened 0 (free name.now ty.now) (body_in predicate.now))
+        b.now.hyps) ≡ false }
     requires predicate_apart { occurs name.now ty.now predicate.now ≡ false }
     requires concl_apart { occurs name.now ty.now b.now.concl ≡ false }
-    ensures { IfOk result (λ th. th ≡ without_one defs.now (opened 0 (free name.now ty.now) (body_in predicate.now)) b.now (each_implies ty.now predicate.now b.now.concl)) }
+    ensures { IfOk result (λ th. th ≡ without_one defs.now (opened 0 (free name.now ty.now) (body_in predicate.now))
+        b.now (each_implies ty.now predicate.now b.now.concl)) }
 {
     let variable = variable(alloc, name, ty)?;
     let equation = applied(alloc, defs, predicate, &variable)?;
@@ -210,10 +221,12 @@ pub fn choose_known(
     requires existence { IsExistence defs.now a.now ty.now predicate.now }
     requires abstraction { IsAbstraction predicate.now }
     requires within { Within b.now.defs defs.now }
-    requires apart { occurs_in_any name.now ty.now (without (opened 0 (free name.now ty.now) (body_in predicate.now)) b.now.hyps) ≡ false }
+    requires apart { occurs_in_any name.now ty.now (without (opened 0 (free name.now ty.now) (body_in predicate.now))
+        b.now.hyps) ≡ false }
     requires predicate_apart { occurs name.now ty.now predicate.now ≡ false }
     requires concl_apart { occurs name.now ty.now b.now.concl ≡ false }
-    ensures { IfOk result (λ th. th ≡ choice_made defs.now a.now b.now (without (opened 0 (free name.now ty.now) (body_in predicate.now)) b.now.hyps)) }
+    ensures { IfOk result (λ th. th ≡ choice_made defs.now a.now b.now (without (opened 0 (free name.now ty.now)
+        (body_in predicate.now)) b.now.hyps)) }
 {
     let each = each_implied(alloc, defs, name, ty, predicate, b)?;
     let reaching = reaching(alloc, defs, a, ty, predicate, b.concl())?;
