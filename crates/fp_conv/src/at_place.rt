@@ -69,8 +69,8 @@ fn closed_again(
 ) -> Result<Thm, AllocError>
     requires typed { IsTyped (signature_of defs.now) (abs ty.now body.now) }
     requires equation { eq.now.concl ≡ equal sides.now.ty.now sides.now.left.now sides.now.right.now }
-    requires apart { (occurs opening.0 ty.now body.now || (occurs opening.0 ty.now eq.now.concl || occurs_in_any
-        opening.0 ty.now eq.now.hyps)) ≡ false }
+    requires apart { (occurs opening.0 ty.now body.now || (occurs opening.0 ty.now eq.now.concl ||
+        occurs_in_any opening.0 ty.now eq.now.hyps)) ≡ false }
     requires opened { opening.1 ≡ opened 0 (free opening.0 ty.now) body.now }
     requires inner { Equates defs.now eq.now.promises eq.now.hyps opening.1
         (put_at rest.now sides.now.right.now opening.1) inner }

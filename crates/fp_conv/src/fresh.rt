@@ -34,8 +34,8 @@ fn first_unused(alloc: Global, from: u32, ty: &Ty, body: &Term) -> Result<Name, 
 
 // Is the variable free in any of the terms?
 fn is_taken(name: &Name, ty: &Ty, body: &Term, other: &Term, hyps: &[Term]) -> bool
-    ensures { result ≡ (occurs name.now ty.now body.now || (occurs name.now ty.now other.now || occurs_in_any name.now
-        ty.now hyps.now)) }
+    ensures { result ≡ (occurs name.now ty.now body.now || (occurs name.now ty.now other.now ||
+        occurs_in_any name.now ty.now hyps.now)) }
 {
     occurs(name, ty, body) || occurs(name, ty, other) || occurs_in_any(name, ty, hyps)
 }
@@ -49,8 +49,8 @@ fn fresh(
     other: &Term,
     hyps: &[Term],
 ) -> Result<Name, AllocError>
-    ensures { IfOk result (λ name. (occurs name ty.now body.now || (occurs name ty.now other.now || occurs_in_any name
-        ty.now hyps.now)) ≡ false) }
+    ensures { IfOk result (λ name. (occurs name ty.now body.now || (occurs name ty.now other.now ||
+        occurs_in_any name ty.now hyps.now)) ≡ false) }
 {
     for number in from..u32::MAX {
         let name = opening_name(alloc, number)?;
@@ -95,8 +95,8 @@ pub(crate) fn opening(
     other: &Term,
     hyps: &[Term],
 ) -> Result<(Name, Term), AllocError>
-    ensures apart { IfOk result (λ p. (occurs p.0 ty.now body.now || (occurs p.0 ty.now other.now || occurs_in_any p.0
-        ty.now hyps.now)) ≡ false) }
+    ensures apart { IfOk result (λ p. (occurs p.0 ty.now body.now || (occurs p.0 ty.now other.now ||
+        occurs_in_any p.0 ty.now hyps.now)) ≡ false) }
     ensures opened { IfOk result (λ p. p.1 ≡ opened 0 (free p.0 ty.now) body.now) }
 {
     let name = fresh(alloc, from, ty, body, other, hyps)?;
@@ -147,8 +147,8 @@ pub(crate) fn unused(
     sides: &Equation<'_>,
     hyps: &[Term],
 ) -> Result<Name, AllocError>
-    ensures { IfOk result (λ name. is_used name (term.now ∷ sides.now.left.now ∷ sides.now.right.now ∷ hyps.now) ≡
-        false) }
+    ensures { IfOk result (λ name. is_used name (term.now ∷ sides.now.left.now ∷ sides.now.right.now ∷ hyps.now)
+        ≡ false) }
 {
     for number in from..u32::MAX {
         let name = opening_name(alloc, number)?;
@@ -169,8 +169,8 @@ pub(crate) fn unused_opening(
     sides: &Equation<'_>,
     hyps: &[Term],
 ) -> Result<(Name, Term), AllocError>
-    ensures unused { IfOk result (λ p. is_used p.0 (body.now ∷ sides.now.left.now ∷ sides.now.right.now ∷ hyps.now) ≡
-        false) }
+    ensures unused { IfOk result (λ p. is_used p.0 (body.now ∷ sides.now.left.now ∷ sides.now.right.now ∷ hyps.now)
+        ≡ false) }
     ensures opened { IfOk result (λ p. p.1 ≡ opened 0 (free p.0 ty.now) body.now) }
 {
     let name = unused(alloc, from, body, sides, hyps)?;

@@ -8,7 +8,7 @@ ghost use Rattle.fp_conclude.specs.Rules.{inst_of};
 ghost use Rattle.fp_kernel.specs.Definitions.{Within};
 ghost use Rattle.fp_kernel.specs.Derivability.{IsFormula};
 ghost use Rattle.fp_kernel.specs.Start.{signature_of};
-ghost use Rattle.fp_kernel.specs.Theorems.{from_one};
+ghost use Rattle.fp_kernel.specs.Theorems.{by_one, from_one};
 ghost use Rattle.fp_conv.specs.Equations.{IsTyped, IsGiven, Equates};
 ghost use Rattle.fp_conv.specs.Outermost.{Instance, Rewritten, Determined, Stays, Becomes, StaysOrBecomes, for_variable, is_used, sides_of};
 
@@ -107,8 +107,8 @@ fn closed_again(
 ) -> Result<Option<Thm>, AllocError>
     requires typed { IsTyped (signature_of defs.now) (abs ty.now body.now) }
     requires none { Instance eq.now.hyps sides.now.left.now (abs ty.now body.now) → ⊥ }
-    requires unused { is_used opening.now.0 (body.now ∷ sides.now.left.now ∷ sides.now.right.now ∷ eq.now.hyps) ≡
-        false }
+    requires unused { is_used opening.now.0 (body.now ∷ sides.now.left.now ∷ sides.now.right.now ∷ eq.now.hyps)
+        ≡ false }
     requires opened { opening.now.1 ≡ opened 0 (free opening.now.0 ty.now) body.now }
     requires inner { StaysOrBecomes defs.now eq.now sides.now opening.now.1 inner.now }
     ensures { IfOk result (StaysOrBecomes defs.now eq.now sides.now (abs ty.now body.now)) }
@@ -221,8 +221,7 @@ fn held(
     requires within { Within eq.now.defs defs.now }
     requires variable { variable.now ≡ free name.now truth_type }
     requires apart { occurs_in_any name.now truth_type eq.now.hyps ≡ false }
-    ensures { IfOk result (λ th. th ≡ record { defs = defs.now; promises = eq.now.promises; hyps = eq.now.hyps; concl
-        = equal truth_type variable.now variable.now }) }
+    ensures { IfOk result (λ th. th ≡ by_one defs.now eq.now (equal truth_type variable.now variable.now)) }
 {
     eq.hyps();
     eq.promises();

@@ -50,8 +50,8 @@ pub(crate) fn trans_known(
     requires first_within { Within first.now.defs defs.now }
     requires second_within { Within second.now.defs defs.now }
     requires given { IsGiven (from_both defs.now first.now second.now (trans_of first.now.concl second.now.concl)) }
-    ensures { IfOk result (λ th. from_both defs.now first.now second.now (trans_of first.now.concl second.now.concl) ≡
-        gives th) }
+    ensures { IfOk result (λ th. from_both defs.now first.now second.now (trans_of first.now.concl second.now.concl)
+        ≡ gives th) }
 {
     given(defs.trans(alloc, first, second))
 }
@@ -113,8 +113,8 @@ pub(crate) fn eq_mp_known(
     requires first_within { Within first.now.defs defs.now }
     requires second_within { Within second.now.defs defs.now }
     requires given { IsGiven (from_both defs.now first.now second.now (eq_mp_of first.now.concl second.now.concl)) }
-    ensures { IfOk result (λ th. from_both defs.now first.now second.now (eq_mp_of first.now.concl second.now.concl) ≡
-        gives th) }
+    ensures { IfOk result (λ th. from_both defs.now first.now second.now (eq_mp_of first.now.concl second.now.concl)
+        ≡ gives th) }
 {
     given(defs.eq_mp(alloc, first, second))
 }
