@@ -1,14 +1,14 @@
 -- What the equations of a pass have on the right.
-use Rattle.std.proofs.Common.{◌≡◌, ◌∙◌, ℕ, ◌+◌, ◌<◌, ◌≤◌, Bool, true, false, not, ◌&&◌, ◌||◌, List, [], refl, sym, ap, subst}
+use Rattle.std.proofs.Common.{◌≡◌, ◌∙◌, ℕ, ◌+◌, ◌<◌, ◌≤◌, Bool, true, false, ◌&&◌, ◌||◌, List, [], refl, sym, ap, subst}
 use Rattle.std.specs.Prelude.{Result, Ok, Err, IfOk}
 use Rattle.fp_term.specs.Types.{Typ}
 use Rattle.fp_term.specs.Terms.{Tm, bound, free, constant, app, abs, opened, closed}
 use Rattle.fp_kernel.specs.Definitions.{Def}
 use Rattle.fp_kernel.specs.Theorems.{Theorem}
 use Rattle.fp_conv.specs.Equations.{Equates, right_of}
-use Rattle.fp_conv.specs.Beta.{is_abstraction, is_redex, is_normal}
+use Rattle.fp_conv.specs.Beta.{is_redex, is_normal}
 use Rattle.fp_conv.specs.Normal.{Reduction}
-use Rattle.fp_conv.specs.Passes.{contracted, Passes, settled, at_redex, in_parts, in_body, NormalBy, done, again, IsFirstUnused, PassedParts}
+use Rattle.fp_conv.specs.Passes.{contracted, Passes, settled, at_redex, in_parts, in_body, NormalBy, again, IsFirstUnused, PassedParts}
 
 pub right_is : {defs : List Def} {promises : List (ℕ × Tm)} {hyps : List Tm} {t u : Tm} {th : Theorem} → Equates defs promises hyps t u th → right_of th.concl ≡ u
 right_is e = ap (λ (w : Theorem). right_of w.concl) e.is

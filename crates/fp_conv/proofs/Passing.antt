@@ -1,10 +1,9 @@
 -- The term that passes come to is one.
-use Rattle.std.proofs.Common.{◌≡◌, ◌∙◌, ℕ, ◌<◌, ◌≤◌, ◌+◌, true, false, List, refl, sym, ap, subst, arith}
+use Rattle.std.proofs.Common.{◌≡◌, ◌∙◌, ℕ, ◌<◌, ◌≤◌, ◌+◌, false, List, refl, sym, ap, subst, arith}
 use Rattle.fp_term.specs.Types.{Typ}
-use Rattle.fp_term.specs.Terms.{Tm, free, app, abs, opened, closed}
+use Rattle.fp_term.specs.Terms.{Tm, free, abs, opened, closed}
 use Rattle.fp_conclude.specs.Hypotheses.{occurs}
-use Rattle.fp_conv.specs.Beta.{is_abstraction, is_normal}
-use Rattle.fp_conv.specs.Passes.{opening_name, IsFirstUnused, contracted, Passes, settled, at_redex, in_parts, in_body, NormalBy, done, again}
+use Rattle.fp_conv.specs.Passes.{opening_name, IsFirstUnused, Passes, settled, at_redex, in_parts, in_body, NormalBy, done, again}
 
 taken_below : (from : ℕ) (s : Typ) (body : Tm) (a b : List ℕ) (h : IsFirstUnused from s body a) (k : IsFirstUnused from s body b) → h.number < k.number → ⊥
 taken_below from s body a b h k below =

@@ -11,7 +11,7 @@ use Rattle.fp_conclude.specs.Checks.{AreTypesOf}
 use Rattle.fp_kernel.specs.Definitions.{Def, whole}
 use Rattle.fp_kernel.specs.Start.{signature_of}
 use Rattle.fp_kernel.specs.Derivability.{IsFormula}
-use Rattle.fp_kernel.specs.Theorems.{Theorem, stands, from_one, plain, by_one, by_both}
+use Rattle.fp_kernel.specs.Theorems.{Theorem, plain, by_one, by_both}
 use Rattle.fp_kernel.proofs.Growing.{from_start}
 use Rattle.fp_conclude.specs.Shapes.{left}
 use Rattle.fp_forms.specs.Schemas.{identity}

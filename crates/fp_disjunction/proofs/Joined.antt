@@ -7,14 +7,11 @@ use Rattle.fp_term.specs.Signatures.{IsWellTyped}
 use Rattle.fp_term.proofs.Typed.{app_typed}
 use Rattle.fp_conclude.specs.Logic.{truth_type, predicate_type, binary_type, equal, true_constant, connective, implication}
 use Rattle.fp_conclude.specs.Hypotheses.{IsSet}
-use Rattle.fp_conclude.specs.Outcomes.{gives}
-use Rattle.fp_conclude.specs.Rules.{lam_of}
-use Rattle.fp_conclude.proofs.Gives.{lam_gives}
 use Rattle.fp_conclude.proofs.Sets.{union_nothing}
 use Rattle.fp_kernel.specs.Definitions.{Def, Within, whole}
 use Rattle.fp_kernel.specs.Start.{signature_of}
 use Rattle.fp_kernel.specs.Derivability.{IsFormula}
-use Rattle.fp_kernel.specs.Theorems.{Theorem, ArePromises, stands, from_one, plain, from_itself, by_one, by_both}
+use Rattle.fp_kernel.specs.Theorems.{Theorem, ArePromises, plain, from_itself, by_one, by_both}
 use Rattle.fp_kernel.proofs.Growing.{from_start}
 use Rattle.fp_kernel.proofs.Promised.{promises_alone}
 use Rattle.fp_disjunction.specs.Forms.{disjunction}

@@ -1,31 +1,15 @@
--- A rule that gives something is refused for want of memory alone, and what it gives on premises of its shape.
-use Rattle.std.proofs.Common.{◌≡◌, ◌∙◌, List, [], ◌∷◌, refl, sym, ap, subst}
-use Rattle.std.specs.Prelude.{Some, None, Result, Ok, Err, IfOk}
+-- What is given for a term that is known.
+use Rattle.std.proofs.Common.{◌≡◌, ◌∙◌, List, [], ◌∷◌, refl, sym, subst}
+use Rattle.std.specs.Prelude.{Some, Result, Ok, Err, IfOk}
 use Rattle.fp_term.specs.Types.{Typ}
-use Rattle.fp_term.specs.Terms.{Tm, app, abs, opened, replaced}
-use Rattle.fp_term.specs.Typing.{type_under, function_type}
-use Rattle.fp_term.specs.Signatures.{IsWellTyped, unknown_in_type}
-use Rattle.fp_term.specs.Names.{function}
-use Rattle.fp_term.proofs.Known.{known_type}
-use Rattle.fp_term.proofs.Typed.{typed_over}
-use Rattle.std.proofs.lemmas.Option.{same_Some}
-use Rattle.fp_conclude.specs.Hypotheses.{all_replaced}
-use Rattle.fp_kernel.specs.Derivability.{IsFormula}
-use Rattle.fp_kernel.proofs.Growing.{from_start}
-use Rattle.fp_forms.specs.Schemas.{in_place}
-use Rattle.fp_conclude.specs.Logic.{truth_type, equal}
-use Rattle.fp_conclude.specs.declared.fault.RuleFault.{RuleFault}
-use Rattle.fp_conclude.specs.declared.fault.RuleFault.TheVariants.{UnknownName, IllTyped, NotEquation, NotRedex, NotBool, Shape, Differ, FreeInHyps, NoSuchPromise, PromiseOrder, NoMemory}
-use Rattle.fp_conclude.specs.Outcomes.{Outcome, gives, refused, Answers, FaultIs, unknown_name, ill_typed_at, not_equation, not_redex, not_bool, shape, differ, free_in_hyps, no_such_promise, promise_order}
-use Rattle.fp_conclude.specs.Rules.{refl_of, trans_of, mk_comb_of, beta_of, assume_of, eq_mp_of, inst_of}
-use Rattle.fp_conclude.proofs.Gives.{refl_gives, trans_gives, mk_comb_gives, beta_gives, assume_gives, eq_mp_gives, inst_gives}
+use Rattle.fp_term.specs.Terms.{Tm, app, opened}
+use Rattle.fp_term.specs.Typing.{type_under}
+use Rattle.fp_term.specs.Signatures.{IsWellTyped}
+use Rattle.fp_conclude.specs.Logic.{equal}
 use Rattle.fp_kernel.specs.Definitions.{Def}
 use Rattle.fp_kernel.specs.Start.{signature_of}
-use Rattle.fp_kernel.specs.Theorems.{Theorem, stands, from_one, from_both, plain, from_itself, by_both}
-use Rattle.fp_conclude.specs.Shapes.{side_type, target, left, right, binder_in, body_in, function_in, argument_in, IsRedex}
-use Rattle.fp_kernel.specs.Known.{CanTrans, CanMkComb, CanEqMp}
-use Rattle.fp_conclude.specs.Known.{trans_concl, mk_comb_concl}
-use Rattle.fp_logic.specs.Steps.{IsGiven}
+use Rattle.fp_kernel.specs.Theorems.{Theorem, plain}
+use Rattle.fp_conclude.specs.Shapes.{body_in, function_in, argument_in, IsRedex}
 
 abbrev pub Reduced : List Def → Tm → Typ → Theorem
 Reduced defs t u = plain defs (equal u t (opened 0 (argument_in t) (body_in (function_in t))))

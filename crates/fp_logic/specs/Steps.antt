@@ -1,19 +1,17 @@
 -- What the rules give on premises of a known form.
 use Rattle.fp_kernel.specs.Known.{CanMkComb}
-use Rattle.std.specs.Prelude.{◌≡◌, ℕ, Bool, List, [], ◌∷◌, Result, Ok, Err, codes}
+use Rattle.std.specs.Prelude.{◌≡◌, ℕ, Bool, List, [], ◌∷◌, codes}
 use Rattle.fp_term.specs.Types.{Typ}
 use Rattle.fp_term.specs.Terms.{Tm, constant, app, opened}
 use Rattle.fp_term.specs.Names.{equality}
 use Rattle.fp_conclude.specs.Logic.{truth_type, equality_type, equal, true_constant, connective}
-use Rattle.fp_conclude.specs.Hypotheses.{union, without}
-use Rattle.fp_conclude.specs.declared.fault.RuleFault.{RuleFault}
-use Rattle.fp_conclude.specs.declared.fault.RuleFault.TheVariants.{NoMemory}
+use Rattle.fp_conclude.specs.Hypotheses.{without}
 use Rattle.fp_kernel.specs.Definitions.{Def, Within}
 use Rattle.fp_kernel.specs.Start.{signature_of}
 use Rattle.fp_kernel.specs.Derivability.{IsFormula}
-use Rattle.fp_kernel.specs.Theorems.{Theorem, promise_union, plain}
+use Rattle.fp_kernel.specs.Theorems.{Theorem, plain}
 use Rattle.fp_forms.specs.Schemas.{p_variable, q_variable, held, itself, choice, chosen}
-use Rattle.fp_conclude.specs.Shapes.{side_type, target, left, right, body_in, IsEquation, IsEquationOn, IsEquationFrom, IsAbstraction}
+use Rattle.fp_conclude.specs.Shapes.{side_type, target, left, right, body_in, IsEquation, IsEquationFrom, IsAbstraction}
 
 -- an equation with an abstraction, and one of arguments of it
 abbrev pub CanUnfold : List Def → Theorem → Theorem → Type 0

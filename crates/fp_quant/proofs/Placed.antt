@@ -1,23 +1,12 @@
 -- Instances of what has no hypotheses.
-use Rattle.std.proofs.Common.{◌≡◌, ℕ, true, List, [], refl, sym, ap, subst}
-use Rattle.std.specs.Prelude.{None, Result, IfOk, codes}
-use Rattle.fp_term.specs.Names.{function}
+use Rattle.std.proofs.Common.{◌≡◌, ℕ, true, List, [], refl, sym, subst}
+use Rattle.std.specs.Prelude.{Result, IfOk, codes}
 use Rattle.fp_term.specs.Types.{Typ, type_eq}
 use Rattle.fp_term.specs.Terms.{Tm, app, replaced, retyped_term}
-use Rattle.fp_term.specs.Signatures.{IsWellTyped, unknown_in_type}
 use Rattle.fp_term.proofs.Equal.{type_eq-decides}
-use Rattle.fp_term.proofs.Known.{known_type}
-use Rattle.fp_term.proofs.Typed.{typed_over}
 use Rattle.fp_conclude.specs.Logic.{truth_type, alpha, implication}
-use Rattle.fp_conclude.specs.Hypotheses.{all_replaced, all_retyped_terms}
-use Rattle.fp_conclude.specs.Checks.{AreTerms, AreTypesOf}
-use Rattle.fp_conclude.specs.Outcomes.{gives}
-use Rattle.fp_conclude.specs.Rules.{inst_of, inst_ty_of}
-use Rattle.fp_conclude.proofs.Gives.{inst_gives, inst_ty_gives}
 use Rattle.fp_kernel.specs.Definitions.{Def, Within, whole}
-use Rattle.fp_kernel.specs.Start.{signature_of}
-use Rattle.fp_kernel.specs.Theorems.{Theorem, stands, from_one, plain}
-use Rattle.fp_kernel.proofs.Growing.{from_start}
+use Rattle.fp_kernel.specs.Theorems.{Theorem, plain}
 use Rattle.fp_forms.specs.Schemas.{q_variable}
 use Rattle.fp_forms.specs.Existence.{predicate_variable, holds, some_such, reaches, each_chosen}
 use Rattle.fp_quant.specs.Meanings.{for_alpha}

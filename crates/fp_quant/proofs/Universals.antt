@@ -1,22 +1,16 @@
 -- The definition of `all` at a type, and the steps from it.
-use Rattle.std.proofs.Common.{◌≡◌, ℕ, false, List, refl, sym, ap, subst}
+use Rattle.std.proofs.Common.{◌≡◌, ℕ, List, refl, sym, ap, subst}
 use Rattle.fp_term.specs.Types.{Typ}
 use Rattle.fp_term.specs.Terms.{Tm}
-use Rattle.fp_term.specs.Signatures.{IsType, IsWellTyped}
+use Rattle.fp_term.specs.Signatures.{IsWellTyped}
 use Rattle.fp_conclude.specs.Logic.{predicate_type, equal}
-use Rattle.fp_conclude.specs.Hypotheses.{occurs_in_any}
-use Rattle.fp_conclude.specs.Outcomes.{gives}
-use Rattle.fp_conclude.specs.Rules.{lam_of}
-use Rattle.fp_conclude.proofs.Gives.{lam_gives}
 use Rattle.fp_kernel.specs.Definitions.{Def, Within, whole}
 use Rattle.fp_kernel.specs.Start.{signature_of}
 use Rattle.fp_kernel.specs.Derivability.{IsFormula}
-use Rattle.fp_kernel.specs.Theorems.{Theorem, IsTheorem, from_one, plain, by_one}
-use Rattle.fp_conclude.specs.Shapes.{side_type, left, right, IsEquation}
+use Rattle.fp_kernel.specs.Theorems.{Theorem, IsTheorem, plain, by_one}
+use Rattle.fp_conclude.specs.Shapes.{left}
 use Rattle.fp_logic.specs.Steps.{CanUnfold}
 use Rattle.fp_logic.proofs.Turning.{lifted, lifted_sides}
-use Rattle.fp_kernel.specs.Known.{CanLam}
-use Rattle.fp_conclude.specs.Known.{lam_concl}
 use Rattle.fp_quant.specs.Meanings.{always, universal_at}
 
 -- `all` at a type

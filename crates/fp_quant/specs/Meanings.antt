@@ -1,15 +1,9 @@
 -- What quantified formulas say, and what rules give on premises of a known form.
-use Rattle.std.specs.Prelude.{◌≡◌, ℕ, false, List, [], ◌∷◌, codes}
+use Rattle.std.specs.Prelude.{◌≡◌, ℕ, List, [], ◌∷◌, codes}
 use Rattle.fp_term.specs.Types.{Typ}
-use Rattle.fp_term.specs.Terms.{Tm, bound, app, abs, closed}
+use Rattle.fp_term.specs.Terms.{Tm, bound, app, abs}
 use Rattle.fp_term.specs.Typing.{function_type}
-use Rattle.fp_term.specs.Signatures.{IsType}
 use Rattle.fp_conclude.specs.Logic.{predicate_type, quantifier_type, equal, true_constant, quantifier}
-use Rattle.fp_conclude.specs.Hypotheses.{occurs_in_any}
-use Rattle.fp_kernel.specs.Definitions.{Def, Within}
-use Rattle.fp_kernel.specs.Start.{signature_of}
-use Rattle.fp_kernel.specs.Theorems.{Theorem}
-use Rattle.fp_conclude.specs.Shapes.{side_type, left, right, IsEquation}
 
 -- types for the type variables `'a` and `'b`
 abbrev pub for_alpha : Typ → List (List ℕ × Typ)

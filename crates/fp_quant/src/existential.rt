@@ -1,5 +1,5 @@
 //! Forms of `?`. Primitive steps: `exists` 18, `choose` 65, `select` 24.
-ghost use Rattle.std.specs.Prelude.{◌≡◌, ◌∷◌, Some, None, IfOk, MatchOption};
+ghost use Rattle.std.specs.Prelude.{◌≡◌, ◌∷◌, Some, None, IfOk};
 ghost use Rattle.std.specs.Option.{option_copied};
 ghost use Rattle.fp_term.specs.Terms.{free, opened};
 ghost use Rattle.fp_term.specs.Signatures.{first_of, unknown_in};

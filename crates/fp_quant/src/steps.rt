@@ -1,14 +1,10 @@
 //! Rules on premises of a known form: but for want of memory they give what the form says.
 ghost use Rattle.std.specs.Prelude.{◌≡◌, codes, IfOk};
-ghost use Rattle.fp_term.specs.Terms.{free, replaced, retyped_term};
+ghost use Rattle.fp_term.specs.Terms.{free, retyped_term};
 ghost use Rattle.fp_term.specs.Signatures.{IsType};
-ghost use Rattle.fp_conclude.specs.Checks.{AreTerms, AreTypesOf};
-ghost use Rattle.fp_conclude.specs.Axioms.{eta};
-ghost use Rattle.fp_kernel.specs.Theorems.{plain, by_one};
+ghost use Rattle.fp_kernel.specs.Theorems.{plain};
 ghost use Rattle.fp_kernel.specs.Definitions.{Within};
 ghost use Rattle.fp_kernel.specs.Start.{signature_of};
-ghost use Rattle.fp_kernel.specs.Known.{CanLam};
-ghost use Rattle.fp_conclude.specs.Known.{lam_concl};
 ghost use Rattle.fp_quant.specs.Meanings.{for_alpha, for_both};
 
 use fp_kernel::{Defs, Thm};

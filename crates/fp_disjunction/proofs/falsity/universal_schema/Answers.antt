@@ -1,5 +1,5 @@
 use Rattle.fp_kernel.specs.Definitions.{whole}
-use Rattle.fp_disjunction.proofs.False.{for_alpha, alpha_known}
+use Rattle.fp_disjunction.proofs.False.{alpha_known}
 use Rattle.fp_disjunction.proofs.falsity.universal_schema.Goals as goal
 
 pub inst_ty_known-requires : goal.inst_ty_known-requires

@@ -1,4 +1,3 @@
-use Rattle.std.proofs.Common.{refl}
 use Rattle.fp_disjunction.proofs.Joined.{abstract_asks, abstract_gives}
 use Rattle.fp_disjunction.proofs.joining.abstracted.Goals as goal
 
