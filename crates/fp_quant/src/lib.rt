@@ -14,7 +14,7 @@ pub mod universal;
 pub mod witness;
 
 pub use existential::{choose, exists, select};
-pub use extensional::{Functions, ext, ext_known};
+pub use extensional::{ext, ext_known};
 pub use general::{gen_all, spec, spec_known};
 pub use universal::gen_all_known;
 pub use witness::{choose_known, exists_known, select_known};
