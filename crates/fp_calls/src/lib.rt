@@ -7,5 +7,5 @@ mod high;
 mod quantified;
 
 pub use calls::{Call, rows_right};
-pub use high::{discharges_high, normalizes_high, rewrites_high, rewrites_high_at};
 pub use fp_texts::Premise;
+pub use high::{discharges_high, normalizes_high, rewrites_high, rewrites_high_at};

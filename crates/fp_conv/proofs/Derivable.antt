@@ -1,5 +1,5 @@
 -- A term is derivably equal to whatever it reduces to: a body may be opened only by a variable that isn't free in it.
-use Rattle.std.proofs.Common.{◌≡◌, ℕ, List, [], refl}
+use Rattle.std.proofs.Common.{ℕ, List, [], refl}
 use Rattle.fp_term.specs.Types.{Typ}
 use Rattle.fp_term.specs.Terms.{Tm, free, opened}
 use Rattle.fp_term.specs.Typing.{function_type}

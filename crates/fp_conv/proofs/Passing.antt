@@ -1,5 +1,5 @@
 -- The term that passes come to is one.
-use Rattle.std.proofs.Common.{◌≡◌, ◌∙◌, ℕ, ◌<◌, ◌≤◌, ◌+◌, false, List, refl, sym, ap, subst, arith}
+use Rattle.std.proofs.Common.{◌≡◌, ◌∙◌, ℕ, ◌<◌, ◌+◌, false, List, refl, sym, ap, subst, arith}
 use Rattle.fp_term.specs.Types.{Typ}
 use Rattle.fp_term.specs.Terms.{Tm, free, abs, opened, closed}
 use Rattle.fp_conclude.specs.Hypotheses.{occurs}

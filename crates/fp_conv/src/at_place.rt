@@ -15,7 +15,7 @@ ghost use Rattle.fp_conv.specs.Equations.{IsTyped, Equates};
 ghost use Rattle.fp_conv.specs.Rewriting.{put_by, rewrite_of};
 
 use crate::fresh::opening;
-use crate::steps::{lam_known, trans_known, refl_known, ap_arg_known, ap_known};
+use crate::steps::{ap_arg_known, ap_known, lam_known, refl_known, trans_known};
 use fp_conclude::{Equation, sides, typed_over};
 use fp_kernel::{Defs, RuleFault, Thm};
 use fp_term::{Name, Node, Place, Term, Ty, same};

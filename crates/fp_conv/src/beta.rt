@@ -11,7 +11,7 @@ ghost use Rattle.fp_conv.specs.Normal.{Reduction, NormalForm, Normalizes};
 ghost use Rattle.fp_conv.specs.Passes.{contracted, Passes, PassedParts};
 
 use crate::fresh::first_opening;
-use crate::steps::{lam_known, trans_known, mk_comb_known, beta_known, refl_known, eq_mp_known};
+use crate::steps::{beta_known, eq_mp_known, lam_known, mk_comb_known, refl_known, trans_known};
 use fp_kernel::{Defs, RuleFault, Thm};
 use fp_term::{Name, Node, Term, Ty};
 use std::alloc::{AllocError, Global};

@@ -15,7 +15,8 @@ ghost use Rattle.fp_conv.specs.Outermost.{Instance, Rewritten, Determined, Stays
 use crate::fresh::{unused, unused_opening};
 use crate::instances::at_instance;
 use crate::steps::{
-    lam_known, mk_comb_known, antisym_known, refl_known, inst_known, eq_mp_known, ap_arg_known, ap_known,
+    antisym_known, ap_arg_known, ap_known, eq_mp_known, inst_known, lam_known, mk_comb_known,
+    refl_known,
 };
 use fp_conclude::{Equation, sides, truth_type};
 use fp_kernel::{Defs, RuleFault, Thm};

@@ -17,8 +17,7 @@ ghost use Rattle.fp_disjunction.specs.Steps.{IsDisjunction};
 
 use crate::falsity::{always_at, universal};
 use crate::parts::disjunction_parts;
-use fp_conclude::{LogicalConstant, RuleFault, differ};
-use fp_conclude::argument_in;
+use fp_conclude::{LogicalConstant, RuleFault, argument_in, differ};
 use fp_kernel::{Defs, Thm};
 use fp_logic::choosing::established;
 use fp_logic::holding::convert;

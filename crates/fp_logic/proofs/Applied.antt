@@ -57,7 +57,7 @@ pub ap_gives : {E : Type 0} (defs : List Def) (a own : Theorem) (t : Tm) (q : Re
     IfOk q (λ th. (s : Typ) → type_under [] t ≡ Some (function_type (side_type a.concl) s) → th ≡ by_one defs a (equal s (app t (left a.concl)) (app t (right a.concl))))
 ap_gives defs a own t (Ok th) o h k e =
     λ s is.
-        e
-        ∙ ap (λ (x : Theorem). by_both defs x a (mk_comb_concl x.concl a.concl)) (o (function_type (side_type a.concl) s) is)
-        ∙ alone_after defs (equal (function_type (side_type a.concl) s) t t) (equal s (app t (left a.concl)) (app t (right a.concl))) a h k
+    e
+    ∙ ap (λ (x : Theorem). by_both defs x a (mk_comb_concl x.concl a.concl)) (o (function_type (side_type a.concl) s) is)
+    ∙ alone_after defs (equal (function_type (side_type a.concl) s) t t) (equal s (app t (left a.concl)) (app t (right a.concl))) a h k
 ap_gives defs a own t (Err fault) o h k e = tt

@@ -14,8 +14,7 @@ use crate::equations::sym_known;
 use crate::holding::{fold, held_schema, truth_equality, truth_itself};
 use crate::instances::instance;
 use crate::unfolding::{conjunction_schema, implication_schema};
-use fp_conclude::{true_constant, truth_type};
-use fp_conclude::left;
+use fp_conclude::{left, true_constant, truth_type};
 use fp_forms::{
     Lemma, applying_truths, chosen, conjunction_of_variables, equivalent, p_variable, q_variable,
 };
@@ -116,8 +115,7 @@ fn choices_by(alloc: Global, defs: &Defs, first: bool, schema: &Thm) -> Result<T
     requires { schema.now ≡ plain defs.now (equivalent (choice first p_variable q_variable)
         (chosen first p_variable q_variable)) }
     ensures { IfOk result (λ th. th ≡ plain defs.now (equivalent (equivalent (choice first p_variable q_variable)
-        (choice first true_constant true_constant)) (equivalent (chosen first p_variable q_variable) true_constant)))
-        }
+        (choice first true_constant true_constant)) (equivalent (chosen first p_variable q_variable) true_constant))) }
 {
     let equality = truth_equality(alloc, defs)?;
     let applied = defs.mk_comb_known(alloc, &equality, schema)?;

@@ -58,8 +58,7 @@ pub fn ap_arg_known(alloc: Global, defs: &Defs, a: &Thm, term: &Term) -> Result<
 /// `t s = t u` from `s = u`.
 pub fn ap(alloc: Global, defs: &Defs, term: &Term, a: &Thm) -> Result<Thm, RuleFault>
     requires { Within a.now.defs defs.now }
-    ensures { Answers result (from_one defs.now a.now a.now.hyps (ap_of (signature_of defs.now) term.now a.now.concl))
-        }
+    ensures { Answers result (from_one defs.now a.now a.now.hyps (ap_of (signature_of defs.now) term.now a.now.concl)) }
 {
     let _hyps = a.hyps();
     let _promises = a.promises();

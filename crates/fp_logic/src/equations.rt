@@ -10,8 +10,7 @@ ghost use Rattle.fp_conclude.specs.Shapes.{side_type, left, right, function_in, 
 ghost use Rattle.fp_kernel.specs.Theorems.{plain, by_one, by_both};
 ghost use Rattle.fp_logic.specs.Steps.{CanUnfold, unfolded, own_equality, CanTurn, turned};
 
-use fp_conclude::equality_at;
-use fp_conclude::right;
+use fp_conclude::{equality_at, right};
 use fp_kernel::{Defs, Thm};
 use fp_term::{Term, Ty};
 use std::alloc::{AllocError, Global};
@@ -67,7 +66,13 @@ pub fn turn(
 }
 
 /// `t = s` from `s = t`.
-pub fn sym_known(alloc: Global, defs: &Defs, th: &Thm, ty: &Ty, left: &Term) -> Result<Thm, AllocError>
+pub fn sym_known(
+    alloc: Global,
+    defs: &Defs,
+    th: &Thm,
+    ty: &Ty,
+    left: &Term,
+) -> Result<Thm, AllocError>
     requires within { Within th.now.defs defs.now }
     requires equation { th.now.concl ≡ equal ty.now left.now (right th.now.concl) }
     ensures { IfOk result (λ s. s ≡ by_one defs.now th.now (equal ty.now (right th.now.concl) left.now)) }

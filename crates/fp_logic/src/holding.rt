@@ -144,6 +144,12 @@ pub fn fold(alloc: Global, defs: &Defs, equation: &Thm, th: &Thm) -> Result<Thm,
     ensures { IfOk result (λ p. p ≡ by_one defs.now th.now (left equation.now.concl)) }
 {
     let ty = truth_type(alloc)?;
-    let swapped = sym_known(alloc, defs, equation, &ty, fp_conclude::left(equation.concl()))?;
+    let swapped = sym_known(
+        alloc,
+        defs,
+        equation,
+        &ty,
+        fp_conclude::left(equation.concl()),
+    )?;
     convert(alloc, defs, &swapped, th)
 }

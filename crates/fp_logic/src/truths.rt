@@ -35,8 +35,7 @@ pub fn eqt_known(alloc: Global, defs: &Defs, a: &Thm) -> Result<Thm, AllocError>
 /// `p = T` from `p`.
 pub fn eqt(alloc: Global, defs: &Defs, a: &Thm) -> Result<Thm, RuleFault>
     requires { Within a.now.defs defs.now }
-    ensures { Answers result (from_one defs.now a.now a.now.hyps (gives (equal truth_type a.now.concl true_constant)))
-        }
+    ensures { Answers result (from_one defs.now a.now a.now.hyps (gives (equal truth_type a.now.concl true_constant))) }
 {
     Ok(eqt_known(alloc, defs, a)?)
 }

@@ -9,8 +9,8 @@ ghost use Rattle.fp_forms.specs.Schemas.{p_variable, q_variable, itself, both_tr
 
 use crate::equations::unfold;
 use crate::lemmas::lemma_at;
-use fp_forms::{Lemma, p_variable, q_variable};
 use fp_conclude::LogicalConstant;
+use fp_forms::{Lemma, p_variable, q_variable};
 use fp_kernel::{Defs, Thm};
 use fp_term::Term;
 use std::alloc::{AllocError, Global};

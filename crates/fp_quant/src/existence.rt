@@ -7,12 +7,11 @@ ghost use Rattle.fp_kernel.specs.Theorems.{plain, from_itself, by_one, by_both};
 ghost use Rattle.fp_forms.specs.Existence.{predicate_variable, element_variable, holds, some_such, each_implies, reaches, reaches_all, each_chosen};
 
 use crate::universal::{gen_all_known, specialized};
-use fp_conclude::{Axiom, LogicalConstant, alpha, truth_type};
+use fp_conclude::{Axiom, LogicalConstant, alpha, argument_in, body_in, truth_type};
 use fp_forms::existence::{
     each_implies, element_variable, held, implied_body, predicate_variable, some,
 };
 use fp_forms::q_variable;
-use fp_conclude::{argument_in, body_in};
 use fp_kernel::{Defs, Thm};
 use fp_logic::equations::unfold;
 use fp_logic::holding::{convert, fold};

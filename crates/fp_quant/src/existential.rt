@@ -14,10 +14,9 @@ ghost use Rattle.fp_quant.specs.Existential.{witness_type, witnessed, exists_of,
 
 use crate::fault::{free_in_hyps, unknown_name};
 use crate::steps::variable;
-use crate::witness::{select_known, choose_known, exists_known};
-use fp_conclude::{RuleFault, differ, occurs, occurs_in_any, without};
+use crate::witness::{choose_known, exists_known, select_known};
+use fp_conclude::{RuleFault, argument_in, differ, occurs, occurs_in_any, without};
 use fp_forms::existence_parts;
-use fp_conclude::argument_in;
 use fp_kernel::{Defs, Thm};
 use fp_term::{Name, Place, Signature, Term, Ty, open_with, same, type_of};
 use std::alloc::{AllocError, Global};

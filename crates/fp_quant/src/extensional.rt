@@ -16,8 +16,7 @@ ghost use Rattle.fp_quant.specs.Universal.{applied_to_variable, same_functions, 
 
 use crate::fault::{free_in_hyps, unknown_name};
 use crate::steps::{retyped_at_both, variable};
-use fp_conclude::{Axiom, Equation, RuleFault, occurs, occurs_in_any, sides};
-use fp_conclude::left;
+use fp_conclude::{Axiom, Equation, RuleFault, left, occurs, occurs_in_any, sides};
 use fp_kernel::{Defs, Thm};
 use fp_logic::equations::sym_known;
 use fp_term::{Name, Node, Term, Ty, function_of, same};

@@ -11,12 +11,11 @@ ghost use Rattle.fp_kernel.specs.Theorems.{plain, by_one};
 ghost use Rattle.fp_quant.specs.Meanings.{always, universal_at};
 
 use crate::steps::retyped_at;
-use fp_conclude::{LogicalConstant, abstraction};
-use fp_conclude::left;
+use fp_conclude::{LogicalConstant, abstraction, left};
 use fp_kernel::{Defs, Thm};
 use fp_logic::equations::unfold;
 use fp_logic::holding::{convert, fold};
-use fp_logic::truths::{eqt_known, eqt_elim_known};
+use fp_logic::truths::{eqt_elim_known, eqt_known};
 use fp_term::{Name, Term, Ty};
 use std::alloc::{AllocError, Global};
 
@@ -30,12 +29,7 @@ fn universal_schema(alloc: Global, defs: &Defs, ty: &Ty) -> Result<Thm, AllocErr
 }
 
 /// `all P = (P = (%x. T))`, for a predicate on the type.
-pub fn universal(
-    alloc: Global,
-    defs: &Defs,
-    ty: &Ty,
-    predicate: &Term,
-) -> Result<Thm, AllocError>
+pub fn universal(alloc: Global, defs: &Defs, ty: &Ty, predicate: &Term) -> Result<Thm, AllocError>
     requires { IsWellTyped (signature_of defs.now) predicate.now (predicate_type ty.now) }
     ensures { IfOk result (λ th. th ≡ plain defs.now (equal truth_type
         (app (quantifier (codes "all") ty.now) predicate.now) (always ty.now predicate.now))) }
