@@ -3,9 +3,7 @@
 #![tactic(auto)]
 
 mod calls;
-mod high;
 mod quantified;
 
 pub use calls::{Call, rows_right};
 pub use fp_texts::Premise;
-pub use high::{discharges_high, normalizes_high, rewrites_high, rewrites_high_at};

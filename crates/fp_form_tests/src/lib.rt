@@ -8,8 +8,6 @@ mod disjunctions;
 #[cfg(test)]
 mod equality;
 #[cfg(test)]
-mod high;
-#[cfg(test)]
 mod implications;
 #[cfg(test)]
 mod negations;

@@ -5,8 +5,6 @@
 #[cfg(test)]
 mod conversions;
 #[cfg(test)]
-mod high;
-#[cfg(test)]
 mod quantifiers;
 #[cfg(test)]
 mod rewriting;
