@@ -4,6 +4,9 @@ pub mod Places
 pub mod Rewriting
 pub mod Reducing
 pub mod Reduced
+pub mod Passing
+pub mod Passed
+pub mod Derivable
 pub mod Instanced
 pub mod Unused
 pub mod Unions

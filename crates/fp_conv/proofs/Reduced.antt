@@ -1,5 +1,5 @@
 -- The equations that a beta-normal form is made of.
-use Rattle.std.proofs.Common.{◌≡◌, ◌∙◌, ◌<◌, ◌+◌, ℕ, Bool, true, false, ◌||◌, List, [], refl, sym, ap, arith}
+use Rattle.std.proofs.Common.{◌≡◌, ◌∙◌, ◌<◌, ◌+◌, ℕ, Bool, true, false, ◌||◌, List, [], refl, sym, ap, subst, arith}
 use Rattle.std.specs.Prelude.{Result, Ok, Err, IfOk}
 use Rattle.std.proofs.lemmas.Option.{same_Some}
 use Rattle.fp_term.specs.Types.{Typ}
@@ -25,10 +25,12 @@ use Rattle.fp_kernel.proofs.Promised.{promises_alone as promises_nothing}
 use Rattle.fp_conv.specs.Equations.{IsTyped, IsGiven, Equates, right_of}
 use Rattle.fp_conv.specs.Beta.{Reduces, none, first, here, is_redex, is_normal}
 use Rattle.fp_conv.specs.Normal.{Reduction, NormalForm, Normalizes}
+use Rattle.fp_conv.specs.Passes.{contracted, NormalBy, done}
 use Rattle.fp_conv.proofs.Opening.{neither, closed_opened, size-opened}
 use Rattle.fp_conv.proofs.Given.{combine_equates, abstract_given, abstract_equates}
 use Rattle.fp_conv.proofs.Rewriting.{chain}
 use Rattle.fp_conv.proofs.Reducing.{reduces_on, reduces_both, reduces_under}
+use Rattle.fp_conv.proofs.Passed.{right_is, reduct_is}
 
 pub function_typed : (g : Signature) (t f x : Tm) → t ≡ app f x → IsTyped g t → IsTyped g f
 function_typed g t f x is h =
@@ -63,6 +65,7 @@ record Contraction (defs : List Def) (t : Tm) : Type 0 where
   type : Typ
   well : IsWellTyped (signature_of defs) t type
   reduces : Reduces t reduct
+  right : reduct ≡ contracted t
   stands : stands defs [] [] (beta_of (signature_of defs) t) ≡ gives (record { defs = defs; promises = []; hyps = []; concl = equal type t reduct })
 
 contraction : (defs : List Def) (t : Tm) → IsTyped (signature_of defs) t → is_redex t ≡ true → Contraction defs t
@@ -74,6 +77,7 @@ contraction defs t h e =
       type = h.type;
       well = k;
       reduces = first (here p.0 p.1 p.2) none;
+      right = refl;
       stands = ap (stands defs [] []) (beta_gives (signature_of defs) p.0 h.type p.1 p.2 k);
     })
 
@@ -86,6 +90,13 @@ contraction_reduces defs t r (Ok th) h e a i =
     let c = contraction defs t h e in
     record { reduct = c.reduct; reduces = c.reduces; equates = record { type = c.type; typed = c.well; is = same_given th _ (sym (rw i at a) ∙ c.stands) } }
 contraction_reduces defs t r (Err f) h e a i = tt
+
+pub contraction_right : {E : Type 0} (defs : List Def) (t : Tm) (r : Result Theorem RuleFault) (q : Result Theorem E) → IsTyped (signature_of defs) t → is_redex t ≡ true →
+    Answers r (stands defs [] [] (beta_of (signature_of defs) t)) → IfOk q (λ th. r ≡ Ok th) → IfOk q (λ th. right_of th.concl ≡ contracted t)
+contraction_right defs t r (Ok th) h e a i =
+    let c = contraction defs t h e in
+    ap (λ (w : Theorem). right_of w.concl) (same_given th _ (sym (rw i at a) ∙ c.stands)) ∙ c.right
+contraction_right defs t r (Err f) h e a i = tt
 
 -- a term that reduces to itself
 pub unreduced_ok : {E : Type 0} (defs : List Def) (t : Tm) (q : Result Theorem E) → IfOk q (Equates defs [] [] t t) → IfOk q (Reduction defs t)
@@ -101,8 +112,16 @@ module _ {defs : List Def} {t : Tm} {a : Theorem} where
       let right = (sides (signature_of defs) e.type t d.reduct k).right in
       rw (r_is, p_is, e.is) (record { type = e.type; well = right })
 
-  pub normal_form : (p r : Tm) → Reduction defs t a → p ≡ a.concl → r ≡ right_of p → is_normal r ≡ true → NormalForm defs t a
-  normal_form p r d p_is r_is n = record { reduct = d.reduct; reduces = d.reduces; normal = rw (r_is, p_is, d.equates.is) at n; equates = d.equates }
+  pub normal_form : (p r : Tm) → Reduction defs t a → p ≡ a.concl → r ≡ right_of p → is_normal r ≡ true → ((v : Tm) → NormalBy (right_of a.concl) v → NormalBy t v) → NormalForm defs t a
+  normal_form p r d p_is r_is n k =
+      let normal : is_normal d.reduct ≡ true = rw (r_is, p_is, d.equates.is) at n in
+      record {
+        reduct = d.reduct;
+        reduces = d.reduces;
+        normal = normal;
+        by_passes = k d.reduct (subst (λ (w : Tm). NormalBy w d.reduct) (sym (reduct_is d)) (done normal));
+        equates = d.equates;
+      }
 
   -- one reduction after the other
   after : {b : Theorem} → Reduction defs t a → Reduction defs (right_of a.concl) b → IsFormula (signature_of a.defs) a.concl →
@@ -135,6 +154,13 @@ module _ {defs : List Def} {t : Tm} {a : Theorem} where
       }
   after_reduces (Err g) d e f i = tt
 
+  pub after_right : {E : Type 0} {b : Theorem} (q : Result Theorem E) → Reduction defs t a → Reduction defs (right_of a.concl) b → IsFormula (signature_of a.defs) a.concl →
+      IfOk q (λ th. from_both defs a b (trans_of a.concl b.concl) ≡ gives th) → IfOk q (λ th. right_of th.concl ≡ right_of b.concl)
+  after_right (Ok th) d e f i =
+      let c = after d e f in
+      ap (λ (w : Theorem). right_of w.concl) (same_given th _ (sym i ∙ c.2)) ∙ sym (reduct_is c.1)
+  after_right (Err g) d e f i = tt
+
 pub whole_typed : (g : Signature) (t u : Tm) → t ≡ u → IsTyped g t → IsTyped g u
 whole_typed g t u is h = rw is at h
 
@@ -153,6 +179,11 @@ both_reduce {f = f} {x = x} (Ok th) h d e i = record {
   equates = combine_equates th d.equates e.equates h i;
 }
 both_reduce (Err g) h d e i = tt
+
+pub both_right : {E : Type 0} {defs : List Def} {f x : Tm} {a b : Theorem} (q : Result Theorem E) → IsTyped (signature_of defs) (app f x) → Reduction defs f a → Reduction defs x b →
+    IfOk q (λ th. from_both defs a b (mk_comb_of a.concl b.concl) ≡ gives th) → IfOk q (λ th. right_of th.concl ≡ app (right_of a.concl) (right_of b.concl))
+both_right (Ok th) h d e i = right_is (combine_equates th d.equates e.equates h i) ∙ rw (reduct_is d, reduct_is e) refl
+both_right (Err g) h d e i = tt
 
 -- a body that is opened by a variable that isn't free in it
 module _ (defs : List Def) (name : List ℕ) (u : Typ) (x o : Tm) (opened_is : o ≡ opened 0 (free name u) x) (apart : occurs name u x ≡ false) (h : IsTyped (signature_of defs) (abs u x)) where
@@ -173,6 +204,12 @@ module _ (defs : List Def) (name : List ℕ) (u : Typ) (x o : Tm) (opened_is : o
         equates = abstract_equates {E = E} name u (Ok th) h.well.over.0 refl d.equates i;
       })
   body_reduces b (Err f) d i = tt
+
+  pub body_right : {E : Type 0} (b : Theorem) (q : Result Theorem E) → Reduction defs o b →
+      IfOk q (λ th. from_one defs b b.hyps (lam_of (signature_of defs) name u b.hyps b.concl) ≡ gives th) → IfOk q (λ th. right_of th.concl ≡ abs u (closed 0 name u (right_of b.concl)))
+  body_right {E} b (Ok th) d i =
+      right_is (abstract_equates {E = E} name u (Ok th) h.well.over.0 refl d.equates i) ∙ ap (λ (w : Tm). abs u (closed 0 name u w)) (sym (reduct_is d))
+  body_right b (Err f) d i = tt
 
 -- a variable that is apart from all is apart from the first
 pub apart_first : (a b : Bool) → (a || b) ≡ false → a ≡ false
@@ -200,5 +237,6 @@ module _ {defs : List Def} {p : Tm} {b : Theorem} (a : Theorem) (n : NormalForm 
         reduct = n.reduct;
         reduces = rw p_is at n.reduces;
         normal = n.normal;
+        by_passes = rw p_is at n.by_passes;
         is = rw (same_promises, same_hyps) at (same_given th _ (sym i ∙ moved));
       }

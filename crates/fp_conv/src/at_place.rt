@@ -1,3 +1,4 @@
+//! Rewriting at a place.
 ghost use Rattle.std.specs.Prelude.{◌≡◌, ◌∷◌, ◌||◌, ℕ, false, Some, IfOk};
 ghost use Rattle.std.specs.Option.{option_copied};
 ghost use Rattle.fp_term.specs.Types.{Typ};
@@ -14,7 +15,7 @@ ghost use Rattle.fp_conv.specs.Equations.{IsTyped, Equates};
 ghost use Rattle.fp_conv.specs.Rewriting.{put_by, rewrite_of};
 
 use crate::fresh::opening;
-use crate::steps::{abstracted, chained, reflexive, with_argument, with_function};
+use crate::steps::{ap_arg_known, ap_known, lam_known, refl_known, trans_known};
 use fp_conclude::{Equation, sides, typed_over};
 use fp_kernel::{Defs, RuleFault, Thm};
 use fp_term::{Name, Node, Place, Term, Ty, same};
@@ -42,17 +43,19 @@ fn subterm_at<'a>(steps: &[u8], term: &'a Term) -> Option<&'a Term>
 }
 
 // The equation itself.
+#[inline(never)]
 fn at_root(alloc: Global, defs: &Defs, eq: &Thm, sides: &Equation<'_>) -> Result<Thm, AllocError>
     requires within { Within eq.now.defs defs.now }
     requires equation { eq.now.concl ≡ equal sides.now.ty.now sides.now.left.now sides.now.right.now }
     ensures { IfOk result (Equates defs.now eq.now.promises eq.now.hyps sides.now.left.now sides.now.right.now) }
 {
     eq.concl();
-    let same = reflexive(alloc, defs, sides.right)?;
-    chained(alloc, defs, eq, &same)
+    let same = refl_known(alloc, defs, sides.right)?;
+    trans_known(alloc, defs, eq, &same)
 }
 
 // What was rewritten in the opened body of an abstraction is rewritten in the abstraction.
+#[inline(never)]
 fn closed_again(
     alloc: Global,
     defs: &Defs,
@@ -66,12 +69,15 @@ fn closed_again(
 ) -> Result<Thm, AllocError>
     requires typed { IsTyped (signature_of defs.now) (abs ty.now body.now) }
     requires equation { eq.now.concl ≡ equal sides.now.ty.now sides.now.left.now sides.now.right.now }
-    requires apart { (occurs opening.0 ty.now body.now || (occurs opening.0 ty.now eq.now.concl || occurs_in_any opening.0 ty.now eq.now.hyps)) ≡ false }
+    requires apart { (occurs opening.0 ty.now body.now || (occurs opening.0 ty.now eq.now.concl ||
+        occurs_in_any opening.0 ty.now eq.now.hyps)) ≡ false }
     requires opened { opening.1 ≡ opened 0 (free opening.0 ty.now) body.now }
-    requires inner { Equates defs.now eq.now.promises eq.now.hyps opening.1 (put_at rest.now sides.now.right.now opening.1) inner }
-    ensures { IfOk result (Equates defs.now eq.now.promises eq.now.hyps (abs ty.now body.now) (abs ty.now (put_at rest.now sides.now.right.now body.now))) }
+    requires inner { Equates defs.now eq.now.promises eq.now.hyps opening.1
+        (put_at rest.now sides.now.right.now opening.1) inner }
+    ensures { IfOk result (Equates defs.now eq.now.promises eq.now.hyps (abs ty.now body.now)
+        (abs ty.now (put_at rest.now sides.now.right.now body.now))) }
 {
-    abstracted(alloc, defs, &opening.0, ty, &inner)
+    lam_known(alloc, defs, &opening.0, ty, &inner)
 }
 
 // The abstraction is equal to the one with the equation's right side at the place in its body.
@@ -90,7 +96,8 @@ fn in_abstraction(
     requires equation { eq.now.concl ≡ equal sides.now.ty.now sides.now.left.now sides.now.right.now }
     requires typed { IsTyped (signature_of defs.now) (abs ty.now body.now) }
     requires there { (step : ℕ) × (subterm_at (step ∷ rest.now) (abs ty.now body.now) ≡ Some sides.now.left.now) }
-    ensures { IfOk result (Equates defs.now eq.now.promises eq.now.hyps (abs ty.now body.now) (abs ty.now (put_at rest.now sides.now.right.now body.now))) }
+    ensures { IfOk result (Equates defs.now eq.now.promises eq.now.hyps (abs ty.now body.now)
+        (abs ty.now (put_at rest.now sides.now.right.now body.now))) }
 {
     let opening = opening(alloc, depth, ty, body, eq.concl(), eq.hyps())?;
     let next = depth.saturating_add(1);
@@ -113,7 +120,8 @@ fn rewritten(
     requires equation { eq.now.concl ≡ equal sides.now.ty.now sides.now.left.now sides.now.right.now }
     requires typed { IsTyped (signature_of defs.now) term.now }
     requires there { subterm_at steps.now term.now ≡ Some sides.now.left.now }
-    ensures { IfOk result (Equates defs.now eq.now.promises eq.now.hyps term.now (put_at steps.now sides.now.right.now term.now)) }
+    ensures { IfOk result (Equates defs.now eq.now.promises eq.now.hyps term.now
+        (put_at steps.now sides.now.right.now term.now)) }
 {
     let Some((step, rest)) = steps.split_first() else {
         return at_root(alloc, defs, eq, sides);
@@ -121,14 +129,35 @@ fn rewritten(
     match term.node() {
         Node::App { fun, arg } => if *step == 0 {
             let inner = rewritten(alloc, defs, rest, eq, sides, fun, depth)?;
-            with_argument(alloc, defs, fun, &inner, arg)
+            ap_arg_known(alloc, defs, fun, &inner, arg)
         } else {
             let inner = rewritten(alloc, defs, rest, eq, sides, arg, depth)?;
-            with_function(alloc, defs, fun, arg, &inner)
+            ap_known(alloc, defs, fun, arg, &inner)
         },
         Node::Abs { ty, body } => in_abstraction(alloc, defs, rest, eq, sides, ty, body, depth),
         _ => unreachable!(),
     }
+}
+
+/// The term is equal to the one with the equation's right side in place of the subterm at the place, which is its left
+/// side; with the equation's hypotheses and promises.
+pub fn rewrite_at_known(
+    alloc: Global,
+    defs: &Defs,
+    place: &Place,
+    eq: &Thm,
+    sides: &Equation<'_>,
+    term: &Term,
+) -> Result<Thm, AllocError>
+    requires within { Within eq.now.defs defs.now }
+    requires equation { eq.now.concl ≡ equal sides.now.ty.now sides.now.left.now sides.now.right.now }
+    requires typed { IsTyped (signature_of defs.now) term.now }
+    requires there { subterm_at place.now term.now ≡ Some sides.now.left.now }
+    ensures { IfOk result (Equates defs.now eq.now.promises eq.now.hyps term.now
+        (put_at place.now sides.now.right.now term.now)) }
+{
+    let steps = place.steps(alloc)?;
+    rewritten(alloc, defs, steps.as_slice(), eq, sides, term, 0)
 }
 
 fn differ(left: &Term, right: &Term) -> RuleFault
@@ -155,7 +184,9 @@ fn rewritten_at(
     requires within { Within eq.now.defs defs.now }
     requires equation { eq.now.concl ≡ equal sides.now.ty.now sides.now.left.now sides.now.right.now }
     requires typed { IsTyped (signature_of defs.now) term.now }
-    ensures { (s : Typ) → typed_over (signature_of defs.now) term.now ≡ gives s → Answers result (from_one defs.now eq.now eq.now.hyps (put_by s term.now place.now (sides.now.ty.now, sides.now.left.now, sides.now.right.now))) }
+    ensures { (s : Typ) → typed_over (signature_of defs.now) term.now ≡ gives s → Answers result
+        (from_one defs.now eq.now eq.now.hyps (put_by s term.now place.now
+        (sides.now.ty.now, sides.now.left.now, sides.now.right.now))) }
 {
     let steps = place.steps(alloc)?;
     let Some(part) = subterm_at(steps.as_slice(), term) else {
@@ -164,7 +195,7 @@ fn rewritten_at(
     if !same(part, sides.left) {
         return Err(differ(part, sides.left));
     }
-    Ok(rewritten(alloc, defs, steps.as_slice(), eq, sides, term, 0)?)
+    Ok(rewrite_at_known(alloc, defs, place, eq, sides, term)?)
 }
 
 /// The term is equal to the one with the equation's right side in place of the subterm at the place, which has to be
@@ -180,7 +211,8 @@ pub fn rewrite_at(
     term: &Term,
 ) -> Result<Thm, RuleFault>
     requires { Within eq.now.defs defs.now }
-    ensures { Answers result (from_one defs.now eq.now eq.now.hyps (rewrite_of (signature_of defs.now) place.now eq.now.concl term.now)) }
+    ensures { Answers result (from_one defs.now eq.now eq.now.hyps (rewrite_of (signature_of defs.now) place.now
+        eq.now.concl term.now)) }
 {
     typed_over(alloc, defs.signature(), term)?;
     let Some(sides) = sides(eq.concl()) else {

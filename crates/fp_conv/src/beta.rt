@@ -1,5 +1,6 @@
-ghost use Rattle.std.specs.Prelude.{◌≡◌, false, IfOk, IfErr};
-ghost use Rattle.fp_term.specs.Terms.{free, app, abs, opened};
+//! Beta-normal forms, by passes.
+ghost use Rattle.std.specs.Prelude.{◌≡◌, ◌+◌, false, IfOk, IfErr};
+ghost use Rattle.fp_term.specs.Terms.{free, app, abs, opened, closed};
 ghost use Rattle.fp_conclude.specs.Hypotheses.{occurs};
 ghost use Rattle.fp_kernel.specs.Definitions.{Within};
 ghost use Rattle.fp_kernel.specs.Start.{signature_of};
@@ -7,9 +8,10 @@ ghost use Rattle.fp_conclude.specs.declared.fault.RuleFault.TheVariants.{NoMemor
 ghost use Rattle.fp_conv.specs.Beta.{is_abstraction, is_redex, is_normal};
 ghost use Rattle.fp_conv.specs.Equations.{IsTyped, right_of};
 ghost use Rattle.fp_conv.specs.Normal.{Reduction, NormalForm, Normalizes};
+ghost use Rattle.fp_conv.specs.Passes.{contracted, Passes, PassedParts};
 
-use crate::fresh::opening;
-use crate::steps::{abstracted, chained, combined, contracted, reflexive, transferred};
+use crate::fresh::first_opening;
+use crate::steps::{beta_known, eq_mp_known, lam_known, mk_comb_known, refl_known, trans_known};
 use fp_kernel::{Defs, RuleFault, Thm};
 use fp_term::{Name, Node, Term, Ty};
 use std::alloc::{AllocError, Global};
@@ -63,26 +65,30 @@ fn joined(
 ) -> Result<Thm, AllocError>
     requires first { Reduction defs.now term.now first.now }
     requires second { Reduction defs.now (right_of first.now.concl) second.now }
-    ensures { IfOk result (Reduction defs.now term.now) }
+    ensures reduction { IfOk result (Reduction defs.now term.now) }
+    ensures last { IfOk result (λ th. right_of th.concl ≡ right_of second.now.concl) }
 {
     first.concl();
-    chained(alloc, defs, first, second)
+    trans_known(alloc, defs, first, second)
 }
 
 // The reduction, and where its right side is a redex, that of this one too.
+#[inline(never)]
 fn contracted_after(alloc: Global, defs: &Defs, term: &Term, made: Thm) -> Result<Thm, AllocError>
     requires { Reduction defs.now term.now made }
-    ensures { IfOk result (Reduction defs.now term.now) }
+    ensures reduction { IfOk result (Reduction defs.now term.now) }
+    ensures contracted { IfOk result (λ th. right_of th.concl ≡ contracted (right_of made.concl)) }
 {
     let right = right_side(made.concl());
     if !is_redex(right) {
         return Ok(made);
     }
-    let next = contracted(alloc, defs, right)?;
+    let next = beta_known(alloc, defs, right)?;
     joined(alloc, defs, term, &made, &next)
 }
 
 // The reduction of an application by those of its parts.
+#[inline(never)]
 fn applied(
     alloc: Global,
     defs: &Defs,
@@ -94,12 +100,14 @@ fn applied(
     requires typed { IsTyped (signature_of defs.now) (app fun.now arg.now) }
     requires functions { Reduction defs.now fun.now functions }
     requires arguments { Reduction defs.now arg.now arguments }
-    ensures { IfOk result (Reduction defs.now (app fun.now arg.now)) }
+    ensures reduction { IfOk result (Reduction defs.now (app fun.now arg.now)) }
+    ensures sides { IfOk result (λ th. right_of th.concl ≡ app (right_of functions.concl) (right_of arguments.concl)) }
 {
-    combined(alloc, defs, &functions, &arguments)
+    mk_comb_known(alloc, defs, &functions, &arguments)
 }
 
 // The reduction of an abstraction by that of its opened body.
+#[inline(never)]
 fn closed_again(
     alloc: Global,
     defs: &Defs,
@@ -112,9 +120,18 @@ fn closed_again(
     requires apart { occurs opening.0 ty.now body.now ≡ false }
     requires opened { opening.1 ≡ opened 0 (free opening.0 ty.now) body.now }
     requires inner { Reduction defs.now opening.1 inner }
-    ensures { IfOk result (Reduction defs.now (abs ty.now body.now)) }
+    ensures reduction { IfOk result (Reduction defs.now (abs ty.now body.now)) }
+    ensures sides { IfOk result (λ th. right_of th.concl ≡ abs ty.now (closed 0 opening.0 ty.now
+        (right_of inner.concl))) }
 {
-    abstracted(alloc, defs, &opening.0, ty, &inner)
+    lam_known(alloc, defs, &opening.0, ty, &inner)
+}
+
+// The number of abstractions around the body of one.
+fn one_deeper(depth: u32) -> Result<u32, AllocError>
+    ensures { IfOk result (λ next. next ≡ depth + 1) }
+{
+    depth.checked_add(1).ok_or(AllocError)
 }
 
 #[cycle(reduced)]
@@ -126,7 +143,8 @@ fn reduced_application(
     depth: u32,
 ) -> Result<Thm, AllocError>
     requires { IsTyped (signature_of defs.now) (app fun.now arg.now) }
-    ensures { IfOk result (Reduction defs.now (app fun.now arg.now)) }
+    ensures reduction { IfOk result (Reduction defs.now (app fun.now arg.now)) }
+    ensures parts { IfOk result (λ th. PassedParts depth fun.now arg.now (right_of th.concl)) }
 {
     let functions = reduced(alloc, defs, fun, depth)?;
     let arguments = reduced(alloc, defs, arg, depth)?;
@@ -141,25 +159,29 @@ fn reduced_abstraction(
     body: &Term,
     depth: u32,
 ) -> Result<Thm, AllocError>
-    requires { IsTyped (signature_of defs.now) (abs ty.now body.now) }
-    ensures { IfOk result (Reduction defs.now (abs ty.now body.now)) }
+    requires typed { IsTyped (signature_of defs.now) (abs ty.now body.now) }
+    requires unreduced { is_normal body.now ≡ false }
+    ensures reduction { IfOk result (Reduction defs.now (abs ty.now body.now)) }
+    ensures passes { IfOk result (λ th. Passes depth (abs ty.now body.now) (right_of th.concl)) }
 {
-    let opening = opening(alloc, depth, ty, body, body, &[])?;
-    let inner = reduced(alloc, defs, &opening.1, depth.saturating_add(1))?;
+    let next = one_deeper(depth)?;
+    let opening = first_opening(alloc, depth, ty, body)?;
+    let inner = reduced(alloc, defs, &opening.1, next)?;
     closed_again(alloc, defs, ty, body, opening, inner)
 }
 
-// All outermost redexes are contracted, and those that then stand where an application stood.
+// One pass: all outermost redexes are contracted, and those that then stand where an application stood.
 #[cycle(reduced)]
 fn reduced(alloc: Global, defs: &Defs, term: &Term, depth: u32) -> Result<Thm, AllocError>
     requires { IsTyped (signature_of defs.now) term.now }
-    ensures { IfOk result (Reduction defs.now term.now) }
+    ensures reduction { IfOk result (Reduction defs.now term.now) }
+    ensures passes { IfOk result (λ th. Passes depth term.now (right_of th.concl)) }
 {
     if is_normal(term) {
-        return reflexive(alloc, defs, term);
+        return refl_known(alloc, defs, term);
     }
     if is_redex(term) {
-        return contracted(alloc, defs, term);
+        return beta_known(alloc, defs, term);
     }
     match term.node() {
         Node::App { fun, arg } => {
@@ -174,13 +196,15 @@ fn reduced(alloc: Global, defs: &Defs, term: &Term, depth: u32) -> Result<Thm, A
 // The reduction, and then one more pass over its right side.
 fn reduced_after(alloc: Global, defs: &Defs, term: &Term, made: &Thm) -> Result<Thm, AllocError>
     requires { Reduction defs.now term.now made.now }
-    ensures { IfOk result (Reduction defs.now term.now) }
+    ensures reduction { IfOk result (Reduction defs.now term.now) }
+    ensures passes { IfOk result (λ th. Passes 0 (right_of made.now.concl) (right_of th.concl)) }
 {
     let next = reduced(alloc, defs, right_side(made.concl()), 0)?;
     joined(alloc, defs, term, made, &next)
 }
 
-/// The term is equal to its beta-normal form, without hypotheses and promises.
+/// The term is equal to its beta-normal form, without hypotheses and promises. It is the one that passes come to, which
+/// there is just one of (the lemma `one_form`).
 pub fn beta_norm(alloc: Global, defs: &Defs, term: &Term) -> Result<Thm, AllocError>
     requires { IsTyped (signature_of defs.now) term.now }
     ensures { IfOk result (NormalForm defs.now term.now) }
@@ -205,5 +229,5 @@ pub fn norm(alloc: Global, defs: &Defs, given: &Thm) -> Result<Thm, RuleFault>
     let equal = beta_norm(alloc, defs, given.concl())?;
     given.hyps();
     given.promises();
-    Ok(transferred(alloc, defs, &equal, given)?)
+    Ok(eq_mp_known(alloc, defs, &equal, given)?)
 }

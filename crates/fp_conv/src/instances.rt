@@ -8,7 +8,7 @@ ghost use Rattle.fp_kernel.specs.Start.{signature_of};
 ghost use Rattle.fp_conv.specs.Equations.{IsTyped, Equates};
 ghost use Rattle.fp_conv.specs.Outermost.{Instance, IsAllowed, Becomes, keeps_all};
 
-use crate::steps::{replaced, retyped};
+use crate::steps::{inst_known, inst_ty_known};
 use fp_conclude::Equation;
 use fp_kernel::{Defs, Thm};
 use fp_match::{Inst, match_term};
@@ -17,7 +17,8 @@ use std::alloc::{AllocError, Global};
 
 // Does the instance leave the term as it is?
 fn keeps(alloc: Global, instance: &Inst, term: &Term) -> Result<bool, AllocError>
-    ensures { IfOk result (λ yes. yes ≡ term_eq (replaced instance.now.terms (retyped_term instance.now.types term.now)) term.now) }
+    ensures { IfOk result (λ yes. yes ≡ term_eq (replaced instance.now.terms
+        (retyped_term instance.now.types term.now)) term.now) }
 {
     let retyped = inst_ty(alloc, term, instance.types.as_slice())?;
     let whole = inst(alloc, &retyped, instance.terms.as_slice())?;
@@ -42,7 +43,8 @@ fn instance(
     left: &Term,
     term: &Term,
 ) -> Result<Option<Inst>, AllocError>
-    ensures exact { IfOk result (λ o. MatchOption o (Instance hyps.now left.now term.now → ⊥) (λ i. IsAllowed hyps.now left.now i.types i.terms term.now)) }
+    ensures exact { IfOk result (λ o. MatchOption o (Instance hyps.now left.now term.now → ⊥)
+        (λ i. IsAllowed hyps.now left.now i.types i.terms term.now)) }
     ensures first { IfOk result (λ o. MatchOption o (Unit {0}) (λ i. AreFirst i.types i.terms)) }
 {
     match match_term(alloc, left, term)? {
@@ -69,15 +71,17 @@ fn instantiated(
     requires typed { IsTyped (signature_of defs.now) term.now }
     requires allowed { IsAllowed eq.now.hyps sides.now.left.now found.now.types found.now.terms term.now }
     requires first { AreFirst found.now.types found.now.terms }
-    ensures { IfOk result (Equates defs.now eq.now.promises eq.now.hyps term.now (replaced found.now.terms (retyped_term found.now.types sides.now.right.now))) }
+    ensures { IfOk result (Equates defs.now eq.now.promises eq.now.hyps term.now (replaced found.now.terms
+        (retyped_term found.now.types sides.now.right.now))) }
 {
     eq.concl();
     eq.hyps();
-    let typed = retyped(alloc, defs, eq, found.types.as_slice())?;
-    replaced(alloc, defs, &typed, found.terms.as_slice())
+    let typed = inst_ty_known(alloc, defs, eq, found.types.as_slice())?;
+    inst_known(alloc, defs, &typed, found.terms.as_slice())
 }
 
 /// The equation's instance that has the term on the left, where there is one that leaves the hypotheses as they are.
+#[inline(never)]
 pub(crate) fn at_instance(
     alloc: Global,
     defs: &Defs,
@@ -88,7 +92,8 @@ pub(crate) fn at_instance(
     requires within { Within eq.now.defs defs.now }
     requires equation { eq.now.concl ≡ equal sides.now.ty.now sides.now.left.now sides.now.right.now }
     requires typed { IsTyped (signature_of defs.now) term.now }
-    ensures { IfOk result (λ o. MatchOption o (Instance eq.now.hyps sides.now.left.now term.now → ⊥) (Becomes defs.now eq.now sides.now term.now)) }
+    ensures { IfOk result (λ o. MatchOption o (Instance eq.now.hyps sides.now.left.now term.now → ⊥)
+        (Becomes defs.now eq.now sides.now term.now)) }
 {
     match instance(alloc, eq.hyps(), sides.left, term)? {
         Some(found) => Ok(Some(instantiated(alloc, defs, eq, sides, term, &found)?)),

@@ -21,6 +21,6 @@ mod instances;
 mod outermost;
 mod steps;
 
-pub use at_place::rewrite_at;
+pub use at_place::{rewrite_at, rewrite_at_known};
 pub use beta::{beta_norm, norm};
 pub use outermost::rewrite;

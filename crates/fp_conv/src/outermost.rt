@@ -1,3 +1,4 @@
+//! Rewriting of outermost instances.
 ghost use Rattle.std.specs.Prelude.{◌≡◌, false, ◌∷◌, IfOk, IfErr};
 ghost use Rattle.fp_term.specs.Terms.{free, app, abs, opened};
 ghost use Rattle.fp_conclude.specs.Logic.{truth_type, equal};
@@ -7,14 +8,15 @@ ghost use Rattle.fp_conclude.specs.Rules.{inst_of};
 ghost use Rattle.fp_kernel.specs.Definitions.{Within};
 ghost use Rattle.fp_kernel.specs.Derivability.{IsFormula};
 ghost use Rattle.fp_kernel.specs.Start.{signature_of};
-ghost use Rattle.fp_kernel.specs.Theorems.{from_one};
+ghost use Rattle.fp_kernel.specs.Theorems.{by_one, from_one};
 ghost use Rattle.fp_conv.specs.Equations.{IsTyped, IsGiven, Equates};
 ghost use Rattle.fp_conv.specs.Outermost.{Instance, Rewritten, Determined, Stays, Becomes, StaysOrBecomes, for_variable, is_used, sides_of};
 
 use crate::fresh::{unused, unused_opening};
 use crate::instances::at_instance;
 use crate::steps::{
-    abstracted, combined, equated, reflexive, replaced, transferred, with_argument, with_function,
+    antisym_known, ap_arg_known, ap_known, eq_mp_known, inst_known, lam_known, mk_comb_known,
+    refl_known,
 };
 use fp_conclude::{Equation, sides, truth_type};
 use fp_kernel::{Defs, RuleFault, Thm};
@@ -39,8 +41,8 @@ fn function_applied(
     ensures { IfOk result (Becomes defs.now eq.now sides.now (app fun.now arg.now)) }
 {
     match arguments {
-        Some(made) => combined(alloc, defs, functions, made),
-        None => with_argument(alloc, defs, fun, functions, arg),
+        Some(made) => mk_comb_known(alloc, defs, functions, made),
+        None => ap_arg_known(alloc, defs, fun, functions, arg),
     }
 }
 
@@ -60,10 +62,11 @@ fn argument_applied(
     requires arguments { Becomes defs.now eq.now sides.now arg.now arguments.now }
     ensures { IfOk result (Becomes defs.now eq.now sides.now (app fun.now arg.now)) }
 {
-    with_function(alloc, defs, fun, arg, arguments)
+    ap_known(alloc, defs, fun, arg, arguments)
 }
 
 // What an application becomes, from what its parts become.
+#[inline(never)]
 fn applied(
     alloc: Global,
     defs: &Defs,
@@ -92,6 +95,7 @@ fn applied(
 }
 
 // What an abstraction becomes, from what its opened body becomes.
+#[inline(never)]
 fn closed_again(
     alloc: Global,
     defs: &Defs,
@@ -104,13 +108,14 @@ fn closed_again(
 ) -> Result<Option<Thm>, AllocError>
     requires typed { IsTyped (signature_of defs.now) (abs ty.now body.now) }
     requires none { Instance eq.now.hyps sides.now.left.now (abs ty.now body.now) → ⊥ }
-    requires unused { is_used opening.now.0 (body.now ∷ sides.now.left.now ∷ sides.now.right.now ∷ eq.now.hyps) ≡ false }
+    requires unused { is_used opening.now.0 (body.now ∷ sides.now.left.now ∷ sides.now.right.now ∷ eq.now.hyps)
+        ≡ false }
     requires opened { opening.now.1 ≡ opened 0 (free opening.now.0 ty.now) body.now }
     requires inner { StaysOrBecomes defs.now eq.now sides.now opening.now.1 inner.now }
     ensures { IfOk result (StaysOrBecomes defs.now eq.now sides.now (abs ty.now body.now)) }
 {
     match inner {
-        Some(made) => Ok(Some(abstracted(alloc, defs, &opening.0, ty, made)?)),
+        Some(made) => Ok(Some(lam_known(alloc, defs, &opening.0, ty, made)?)),
         None => Ok(None),
     }
 }
@@ -217,13 +222,13 @@ fn held(
     requires within { Within eq.now.defs defs.now }
     requires variable { variable.now ≡ free name.now truth_type }
     requires apart { occurs_in_any name.now truth_type eq.now.hyps ≡ false }
-    ensures { IfOk result (λ th. th ≡ record { defs = defs.now; promises = eq.now.promises; hyps = eq.now.hyps; concl = equal truth_type variable.now variable.now }) }
+    ensures { IfOk result (λ th. th ≡ by_one defs.now eq.now (equal truth_type variable.now variable.now)) }
 {
     eq.hyps();
     eq.promises();
-    let own = reflexive(alloc, defs, variable)?;
-    let alike = equated(alloc, defs, eq, &own)?;
-    transferred(alloc, defs, &alike, eq)
+    let own = refl_known(alloc, defs, variable)?;
+    let alike = antisym_known(alloc, defs, eq, &own)?;
+    eq_mp_known(alloc, defs, &alike, eq)
 }
 
 // The variable of that name and of type `bool`.
@@ -249,11 +254,13 @@ fn with_formula(
     formula: &Term,
 ) -> Result<Thm, AllocError>
     requires within { Within th.now.defs defs.now }
-    requires given { IsGiven (from_one defs.now th.now (all_replaced (for_variable name.now formula.now) th.now.hyps) (inst_of (signature_of defs.now) (for_variable name.now formula.now) th.now.concl)) }
-    ensures { IfOk result (λ i. from_one defs.now th.now (all_replaced (for_variable name.now formula.now) th.now.hyps) (inst_of (signature_of defs.now) (for_variable name.now formula.now) th.now.concl) ≡ gives i) }
+    requires given { IsGiven (from_one defs.now th.now (all_replaced (for_variable name.now formula.now) th.now.hyps)
+        (inst_of (signature_of defs.now) (for_variable name.now formula.now) th.now.concl)) }
+    ensures { IfOk result (λ i. from_one defs.now th.now (all_replaced (for_variable name.now formula.now)
+        th.now.hyps) (inst_of (signature_of defs.now) (for_variable name.now formula.now) th.now.concl) ≡ gives i) }
 {
     let pairs = [pair(alloc, name, formula)?];
-    replaced(alloc, defs, th, &pairs)
+    inst_known(alloc, defs, th, &pairs)
 }
 
 // `p = p` from the hypotheses and promises of the theorem, in which the variable isn't free.
@@ -288,7 +295,7 @@ fn unchanged(
     ensures { IfOk result (Equates defs.now eq.now.promises eq.now.hyps formula.now formula.now) }
 {
     if eq.hyps().is_empty() && eq.promises().is_empty() {
-        return reflexive(alloc, defs, formula);
+        return refl_known(alloc, defs, formula);
     }
     let name = unused(alloc, 0, formula, sides, eq.hyps())?;
     carried(alloc, defs, eq, &name, formula)
@@ -330,5 +337,5 @@ pub fn rewrite(alloc: Global, defs: &Defs, a: &Thm, b: &Thm) -> Result<Thm, Rule
         return Err(RuleFault::NotEquation);
     };
     let equal = rewriting(alloc, defs, a, &sides, b.concl())?;
-    Ok(transferred(alloc, defs, &equal, b)?)
+    Ok(eq_mp_known(alloc, defs, &equal, b)?)
 }

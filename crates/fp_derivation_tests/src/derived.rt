@@ -1,4 +1,4 @@
-// A derivation from the connectives' definitions, by the rules alone.
+//! A derivation from the connectives' definitions, by the rules alone.
 ghost use Rattle.std.specs.Prelude.{◌≤◌, IfOk};
 ghost use Rattle.fp_kernel.specs.Definitions.{Within};
 

@@ -1,4 +1,4 @@
-// Theorems after later definitions, and copies.
+//! Theorems after later definitions, and copies.
 ghost use Rattle.std.specs.Prelude.{IfOk, OnOk, List};
 ghost use Rattle.fp_kernel.specs.Definitions.{Def, Within};
 

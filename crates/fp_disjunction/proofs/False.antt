@@ -7,33 +7,23 @@ use Rattle.fp_term.specs.Signatures.{IsWellTyped}
 use Rattle.fp_term.specs.Names.{truth}
 use Rattle.fp_term.proofs.Typed.{app_typed}
 use Rattle.fp_conclude.specs.Logic.{truth_type, predicate_type, equal}
-use Rattle.fp_conclude.specs.Hypotheses.{all_retyped_terms}
-use Rattle.fp_conclude.specs.Outcomes.{gives}
-use Rattle.fp_conclude.specs.Rules.{inst_ty_of}
-use Rattle.fp_conclude.proofs.Gives.{inst_ty_gives}
+use Rattle.fp_conclude.specs.Checks.{AreTypesOf}
 use Rattle.fp_kernel.specs.Definitions.{Def, whole}
 use Rattle.fp_kernel.specs.Start.{signature_of}
-use Rattle.fp_conclude.specs.Axioms.{connective_numbered}
 use Rattle.fp_kernel.specs.Derivability.{IsFormula}
-use Rattle.fp_kernel.specs.Theorems.{Theorem, stands, from_one}
+use Rattle.fp_kernel.specs.Theorems.{Theorem, plain, by_one, by_both}
 use Rattle.fp_kernel.proofs.Growing.{from_start}
-use Rattle.fp_forms.specs.Shapes.{left}
+use Rattle.fp_conclude.specs.Shapes.{left}
 use Rattle.fp_forms.specs.Schemas.{identity}
 use Rattle.fp_disjunction.specs.Schemas.{always_true, universal_is}
-use Rattle.fp_logic.specs.Steps.{plain, by_one, by_both, CanUnfold, unfolded}
+use Rattle.fp_logic.specs.Steps.{CanUnfold, unfolded}
 use Rattle.fp_logic.proofs.Concrete.{at_start}
 
 abbrev pub for_alpha : List (List ℕ × Typ)
 for_alpha = (codes "a", truth_type) ∷ []
 
-abbrev pub Universal : List Def → Theorem → Type 0
-Universal defs th = from_one defs th (all_retyped_terms for_alpha th.hyps) (inst_ty_of (signature_of defs) for_alpha th.concl) ≡ gives (plain defs universal_is)
-
-universal_at : (defs : List Def) → Universal defs (plain defs (connective_numbered 4))
-universal_at defs = ap (λ o. stands defs [] [] o) (inst_ty_gives (signature_of defs) for_alpha (connective_numbered 4) (((from_start defs).types truth 0 refl, tt), tt))
-
-pub universal_gives : (defs : List Def) (th : Theorem) → th ≡ plain defs (connective_numbered 4) → Universal defs th
-universal_gives defs th e = subst (Universal defs) (sym e) (universal_at defs)
+pub alpha_known : (defs : List Def) → AreTypesOf (signature_of defs) for_alpha
+alpha_known defs = (((from_start defs).types truth 0 refl, tt), tt)
 
 pub universal_asks : (defs : List Def) (p : Tm) → CanUnfold defs (plain defs universal_is) (plain defs (equal (predicate_type truth_type) p p))
 universal_asks defs p = ((whole, whole, refl, refl), refl)

@@ -1,27 +1,25 @@
 -- The steps to a disjunction.
 use Rattle.std.proofs.Common.{◌≡◌, ◌∙◌, List, [], refl, sym, ap, subst}
-use Rattle.std.specs.Prelude.{codes}
+use Rattle.std.specs.Prelude.{codes, Err, IfOk, Ok, Result}
 use Rattle.fp_term.specs.Names.{truth}
 use Rattle.fp_term.specs.Terms.{Tm, app, abs, closed}
 use Rattle.fp_term.specs.Signatures.{IsWellTyped}
 use Rattle.fp_term.proofs.Typed.{app_typed}
 use Rattle.fp_conclude.specs.Logic.{truth_type, predicate_type, binary_type, equal, true_constant, connective, implication}
 use Rattle.fp_conclude.specs.Hypotheses.{IsSet}
-use Rattle.fp_conclude.specs.Outcomes.{gives}
-use Rattle.fp_conclude.specs.Rules.{lam_of}
-use Rattle.fp_conclude.proofs.Gives.{lam_gives}
 use Rattle.fp_conclude.proofs.Sets.{union_nothing}
 use Rattle.fp_kernel.specs.Definitions.{Def, Within, whole}
 use Rattle.fp_kernel.specs.Start.{signature_of}
 use Rattle.fp_kernel.specs.Derivability.{IsFormula}
-use Rattle.fp_kernel.specs.Theorems.{Theorem, ArePromises, stands, from_one}
+use Rattle.fp_kernel.specs.Theorems.{Theorem, ArePromises, plain, from_itself, by_one, by_both}
 use Rattle.fp_kernel.proofs.Growing.{from_start}
 use Rattle.fp_kernel.proofs.Promised.{promises_alone}
 use Rattle.fp_disjunction.specs.Forms.{disjunction}
 use Rattle.fp_forms.specs.Schemas.{q_variable, held}
 use Rattle.fp_disjunction.specs.Schemas.{r_variable, each_way, always_true}
-use Rattle.fp_forms.specs.Shapes.{left, right}
-use Rattle.fp_logic.specs.Steps.{plain, from_itself, by_one, by_both, CanCombine, combined}
+use Rattle.fp_conclude.specs.Shapes.{left, right}
+use Rattle.fp_kernel.specs.Known.{CanMkComb, CanLam}
+use Rattle.fp_conclude.specs.Known.{mk_comb_concl, lam_concl}
 use Rattle.fp_logic.proofs.Concrete.{at_start}
 use Rattle.fp_disjunction.specs.Steps.{without_both}
 
@@ -31,15 +29,19 @@ TrueEquation defs th = th ≡ plain defs (equal truth_type (left th.concl) true_
 pub over_plain : (defs : List Def) (th : Theorem) (p : Tm) → th ≡ plain defs p → Within th.defs defs
 over_plain defs th p e = subst (λ (x : Theorem). Within x.defs defs) (sym e) whole
 
-abbrev Abstracted : List Def → Theorem → Tm → Type 0
-Abstracted defs th l =
-    from_one defs th th.hyps (lam_of (signature_of defs) (codes "r") truth_type th.hyps th.concl) ≡ gives (plain defs (always_true (abs truth_type (closed 0 (codes "r") truth_type l))))
+pub abstract_asks : (defs : List Def) (th : Theorem) → TrueEquation defs th → CanLam defs (codes "r") truth_type th
+abstract_asks defs th e =
+    subst (λ (x : Theorem). CanLam defs (codes "r") truth_type x) (sym e) (whole, ((from_start defs).types truth 0 refl, tt), refl, refl)
 
-abstracted_at : (defs : List Def) (l : Tm) → Abstracted defs (plain defs (equal truth_type l true_constant)) l
-abstracted_at defs l = ap (λ o. stands defs [] [] o) (lam_gives (signature_of defs) (codes "r") truth_type truth_type [] l true_constant ((from_start defs).types truth 0 refl, tt) refl)
+abstract_is : (defs : List Def) (th : Theorem) → TrueEquation defs th →
+    by_one defs th (lam_concl (codes "r") truth_type th.concl) ≡ plain defs (always_true (abs truth_type (closed 0 (codes "r") truth_type (left th.concl))))
+abstract_is defs th e =
+    subst (λ (x : Theorem). by_one defs x (lam_concl (codes "r") truth_type x.concl) ≡ plain defs (always_true (abs truth_type (closed 0 (codes "r") truth_type (left x.concl))))) (sym e) refl
 
-pub abstracted_gives : (defs : List Def) (th : Theorem) → TrueEquation defs th → Abstracted defs th (left th.concl)
-abstracted_gives defs th e = subst (λ (x : Theorem). Abstracted defs x (left th.concl)) (sym e) (abstracted_at defs (left th.concl))
+pub abstract_gives : {E : Type 0} (defs : List Def) (th : Theorem) (q : Result Theorem E) → TrueEquation defs th →
+    IfOk q (λ l. l ≡ by_one defs th (lam_concl (codes "r") truth_type th.concl)) → IfOk q (λ l. l ≡ plain defs (always_true (abs truth_type (closed 0 (codes "r") truth_type (left th.concl)))))
+abstract_gives defs th (Ok l) e h = h ∙ abstract_is defs th e
+abstract_gives defs th (Err f) e h = tt
 
 -- `or` at both sides of `T = p` and at a formula
 abbrev pub own_or : Tm
@@ -51,14 +53,14 @@ Held defs a = a ≡ by_one defs a (held (right a.concl))
 abbrev Itself : List Def → Tm → Theorem
 Itself defs t = plain defs (equal truth_type t t)
 
-once_at : (defs : List Def) (a : Theorem) (p : Tm) → CanCombine defs (plain defs own_or) (by_one defs a (held p))
+once_at : (defs : List Def) (a : Theorem) (p : Tm) → CanMkComb defs (plain defs own_or) (by_one defs a (held p))
 once_at defs a p = (whole, whole, refl, refl)
 
-pub first_once : (defs : List Def) (a : Theorem) → Held defs a → CanCombine defs (plain defs own_or) a
-first_once defs a e = subst (CanCombine defs (plain defs own_or)) (sym e) (once_at defs a (right a.concl))
+pub first_once : (defs : List Def) (a : Theorem) → Held defs a → CanMkComb defs (plain defs own_or) a
+first_once defs a e = subst (CanMkComb defs (plain defs own_or)) (sym e) (once_at defs a (right a.concl))
 
 abbrev FirstOnce : List Def → Theorem → Theorem
-FirstOnce defs a = by_both defs (plain defs own_or) a (combined own_or a.concl)
+FirstOnce defs a = by_both defs (plain defs own_or) a (mk_comb_concl own_or a.concl)
 
 -- `or p = or q`
 abbrev OrEquation : Tm → Tm → Tm
@@ -78,14 +80,14 @@ or_typed defs t h =
 abbrev SecondOnce : List Def → Tm → Theorem
 SecondOnce defs t = plain defs (OrEquation t t)
 
-second_at : (defs : List Def) (a : Theorem) (p t : Tm) → CanCombine defs (SecondOnce defs t) (by_one defs a (held p))
+second_at : (defs : List Def) (a : Theorem) (p t : Tm) → CanMkComb defs (SecondOnce defs t) (by_one defs a (held p))
 second_at defs a p t = (whole, whole, refl, refl)
 
-pub second_twice : (defs : List Def) (a : Theorem) (t : Tm) → Held defs a → CanCombine defs (SecondOnce defs t) a
-second_twice defs a t e = subst (CanCombine defs (SecondOnce defs t)) (sym e) (second_at defs a (right a.concl) t)
+pub second_twice : (defs : List Def) (a : Theorem) (t : Tm) → Held defs a → CanMkComb defs (SecondOnce defs t) a
+second_twice defs a t e = subst (CanMkComb defs (SecondOnce defs t)) (sym e) (second_at defs a (right a.concl) t)
 
 abbrev Second : List Def → Theorem → Tm → Theorem
-Second defs a t = by_both defs (SecondOnce defs t) a (combined (SecondOnce defs t).concl a.concl)
+Second defs a t = by_both defs (SecondOnce defs t) a (mk_comb_concl (SecondOnce defs t).concl a.concl)
 
 second_is : (defs : List Def) (a : Theorem) (p t : Tm) → IsSet a.hyps → ArePromises a.promises → Second defs (by_one defs a (held p)) t ≡ by_one defs a (equal truth_type (disjunction t true_constant) (disjunction t p))
 second_is defs a p t h k = rw (union_nothing a.hyps h, promises_alone a.promises k) refl

@@ -5,9 +5,9 @@ use Rattle.fp_term.specs.Signatures.{IsWellTyped}
 use Rattle.fp_conclude.specs.Logic.{truth_type, equal}
 use Rattle.fp_kernel.specs.Definitions.{Def, Within, whole}
 use Rattle.fp_kernel.specs.Start.{signature_of}
-use Rattle.fp_kernel.specs.Theorems.{Theorem, IsTheorem}
-use Rattle.fp_forms.specs.Shapes.{left, right}
-use Rattle.fp_logic.specs.Steps.{plain, by_one, by_both, own_equality, CanTurn, turned}
+use Rattle.fp_kernel.specs.Theorems.{Theorem, IsTheorem, plain, by_one, by_both}
+use Rattle.fp_conclude.specs.Shapes.{left, right}
+use Rattle.fp_logic.specs.Steps.{own_equality, CanTurn, turned}
 use Rattle.fp_logic.proofs.Turning.{lifted_sides}
 
 abbrev First : List Def → Theorem → Type 0

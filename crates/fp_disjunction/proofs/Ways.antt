@@ -12,9 +12,8 @@ use Rattle.fp_conclude.specs.Logic.{truth_type, equal, true_constant}
 use Rattle.fp_kernel.specs.Definitions.{Def, Within, whole}
 use Rattle.fp_kernel.specs.Start.{signature_of}
 use Rattle.fp_kernel.specs.Derivability.{IsFormula}
-use Rattle.fp_kernel.specs.Theorems.{Theorem, IsTheorem}
+use Rattle.fp_kernel.specs.Theorems.{Theorem, IsTheorem, plain}
 use Rattle.fp_disjunction.specs.Schemas.{each_way, all_ways}
-use Rattle.fp_logic.specs.Steps.{plain}
 use Rattle.fp_logic.proofs.Given.{Reduced}
 use Rattle.fp_logic.proofs.Turning.{lifted_sides}
 

@@ -11,20 +11,18 @@ ghost use Rattle.fp_disjunction.specs.Forms.{disjunction};
 ghost use Rattle.fp_disjunction.specs.Derived.{either_way, cases_from};
 ghost use Rattle.fp_forms.specs.Schemas.{p_variable, q_variable};
 ghost use Rattle.fp_disjunction.specs.Schemas.{each_way, all_ways};
-ghost use Rattle.fp_forms.specs.Shapes.{left, right};
-ghost use Rattle.fp_logic.specs.Steps.{plain, by_one, by_both, without_one};
+ghost use Rattle.fp_kernel.specs.Theorems.{plain, by_one, by_both};
+ghost use Rattle.fp_logic.specs.Steps.{without_one};
 ghost use Rattle.fp_disjunction.specs.Steps.{IsDisjunction};
 
 use crate::falsity::{always_at, universal};
 use crate::parts::disjunction_parts;
-use fp_conclude::{RuleFault, differ};
-use fp_forms::shapes::{self, argument_in};
+use fp_conclude::{LogicalConstant, RuleFault, argument_in, differ};
 use fp_kernel::{Defs, Thm};
 use fp_logic::choosing::established;
 use fp_logic::holding::convert;
-use fp_logic::implications::{discharged, modus};
+use fp_logic::implications::{disch_known, mp_known};
 use fp_logic::instances::instance;
-use fp_logic::steps::{chain, definition, reduced};
 use fp_logic::unfolding::unfold_twice;
 use fp_term::{Term, same};
 use std::alloc::{AllocError, Global};
@@ -33,7 +31,7 @@ use std::alloc::{AllocError, Global};
 fn quantified_schema(alloc: Global, defs: &Defs) -> Result<Thm, AllocError>
     ensures { IfOk result (λ th. th ≡ plain defs.now (disjunction_is_for_all p_variable q_variable)) }
 {
-    let meaning = definition(alloc, defs, 6)?;
+    let meaning = defs.connective_known(alloc, LogicalConstant::Disjunction)?;
     unfold_twice(alloc, defs, &meaning)
 }
 
@@ -42,9 +40,9 @@ fn disjunction_schema(alloc: Global, defs: &Defs) -> Result<Thm, AllocError>
     ensures { IfOk result (λ th. th ≡ plain defs.now (disjunction_is p_variable q_variable)) }
 {
     let quantified = quantified_schema(alloc, defs)?;
-    let predicate = argument_in(shapes::right(quantified.concl()));
+    let predicate = argument_in(fp_conclude::right(quantified.concl()));
     let universal = universal(alloc, defs, predicate)?;
-    chain(alloc, defs, &quantified, &universal)
+    defs.trans_known(alloc, &quantified, &universal)
 }
 
 /// What a disjunction says.
@@ -73,15 +71,16 @@ fn ways_at(
 ) -> Result<Thm, AllocError>
     requires disjunction { IsDisjunction defs.now a.now left.now right.now }
     requires formula { IsFormula (signature_of defs.now) term.now }
-    ensures { IfOk result (λ th. th ≡ by_one defs.now a.now (equal truth_type (app (all_ways left.now right.now) term.now) true_constant)) }
+    ensures { IfOk result (λ th. th ≡ by_one defs.now a.now (equal truth_type
+        (app (all_ways left.now right.now) term.now) true_constant)) }
 {
     let meaning = disjunction_meaning(alloc, defs, left, right)?;
     let always = convert(alloc, defs, &meaning, a)?;
     always_at(alloc, defs, &always, term)
 }
 
-// `(l --> t) --> (m --> t) --> t` from `l \/ m`.
-fn ways(
+/// `(l --> t) --> (m --> t) --> t` from `l \/ m`.
+pub fn ways(
     alloc: Global,
     defs: &Defs,
     a: &Thm,
@@ -94,18 +93,8 @@ fn ways(
     ensures { IfOk result (λ th. th ≡ by_one defs.now a.now (each_way left.now right.now term.now)) }
 {
     let against = ways_at(alloc, defs, a, left, right, term)?;
-    let equation = reduced(alloc, defs, shapes::left(against.concl()))?;
+    let equation = defs.beta_known(alloc, fp_conclude::left(against.concl()))?;
     established(alloc, defs, &against, &equation)
-}
-
-/// `r` from `p --> r` and `p`, by the terms of the theorems.
-pub fn passed_on(alloc: Global, defs: &Defs, a: &Thm, b: &Thm) -> Result<Thm, AllocError>
-    requires first { a.now.defs ≡ defs.now }
-    requires second { b.now.defs ≡ defs.now }
-    requires shape { a.now.concl ≡ implication b.now.concl (right a.now.concl) }
-    ensures { IfOk result (λ th. th ≡ by_both defs.now a.now b.now (right a.now.concl)) }
-{
-    modus(alloc, defs, a, b, b.concl(), shapes::right(a.concl()))
 }
 
 // `(q --> r) --> r` from `p \/ q` and `r`, without `p` among the hypotheses of the second.
@@ -119,15 +108,17 @@ fn first_passed(
 ) -> Result<Thm, AllocError>
     requires disjunction { IsDisjunction defs.now a.now left.now right.now }
     requires within { Within b.now.defs defs.now }
-    ensures { IfOk result (λ th. th ≡ by_both defs.now a.now (without_one defs.now left.now b.now b.now.concl) (implication (implication right.now b.now.concl) b.now.concl)) }
+    ensures { IfOk result (λ th. th ≡ by_both defs.now a.now (without_one defs.now left.now b.now b.now.concl)
+        (implication (implication right.now b.now.concl) b.now.concl)) }
 {
     let ways = ways(alloc, defs, a, left, right, b.concl())?;
-    let first = discharged(alloc, defs, left, b)?;
-    passed_on(alloc, defs, &ways, &first)
+    let first = disch_known(alloc, defs, left, b)?;
+    mp_known(alloc, defs, &ways, &first)
 }
 
-// `r` from `p \/ q`, `r` without `p` and `r` without `q`.
-fn either(
+/// `r` from `l \/ m`, from `r` and from `r`, without `l` among the hypotheses of the second theorem and without `m`
+/// among those of the third.
+pub fn cases_known(
     alloc: Global,
     defs: &Defs,
     a: &Thm,
@@ -143,8 +134,8 @@ fn either(
     ensures { IfOk result (λ th. th ≡ either_way defs.now a.now b.now c.now (left.now, right.now)) }
 {
     let once = first_passed(alloc, defs, a, b, left, right)?;
-    let second = discharged(alloc, defs, right, c)?;
-    passed_on(alloc, defs, &once, &second)
+    let second = disch_known(alloc, defs, right, c)?;
+    mp_known(alloc, defs, &once, &second)
 }
 
 /// `r` from `p \/ q`, from `r` and from `r`, without `p` among the hypotheses of the second theorem and without `q`
@@ -162,5 +153,5 @@ pub fn cases(alloc: Global, defs: &Defs, a: &Thm, b: &Thm, c: &Thm) -> Result<Th
     if !same(b.concl(), c.concl()) {
         return Err(differ(b.concl(), c.concl()));
     }
-    Ok(either(alloc, defs, a, b, c, left, right)?)
+    Ok(cases_known(alloc, defs, a, b, c, left, right)?)
 }

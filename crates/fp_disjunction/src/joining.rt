@@ -5,26 +5,24 @@ ghost use Rattle.fp_conclude.specs.Outcomes.{Answers};
 ghost use Rattle.fp_kernel.specs.Definitions.{Within};
 ghost use Rattle.fp_kernel.specs.Derivability.{IsFormula};
 ghost use Rattle.fp_kernel.specs.Start.{signature_of};
-ghost use Rattle.fp_kernel.specs.Theorems.{from_one};
+ghost use Rattle.fp_kernel.specs.Theorems.{from_one, plain, from_itself, by_one};
 ghost use Rattle.fp_disjunction.specs.Derived.{disj1_of, disj2_of};
 ghost use Rattle.fp_disjunction.specs.Equations.{disjunction_is, true_for_all_r, or_is_itself, or_of_is_itself, or_of_truth_is, truth_first_is, truth_second_is};
 ghost use Rattle.fp_disjunction.specs.Forms.{disjunction};
 ghost use Rattle.fp_forms.specs.Schemas.{q_variable, held};
 ghost use Rattle.fp_disjunction.specs.Schemas.{r_variable, each_way, all_ways, always_true};
-ghost use Rattle.fp_forms.specs.Shapes.{left, right};
-ghost use Rattle.fp_logic.specs.Steps.{plain, from_itself, by_one};
+ghost use Rattle.fp_conclude.specs.Shapes.{left, right};
 ghost use Rattle.fp_disjunction.specs.Steps.{without_both};
 
-use crate::disjunctions::{disjunction_meaning, passed_on};
+use crate::disjunctions::disjunction_meaning;
 use crate::kept::joined_truth;
 use fp_conclude::{RuleFault, apply, connective, implication, true_constant, truth_type};
 use fp_forms::q_variable;
 use fp_kernel::{Defs, Thm};
 use fp_logic::holding::{fold, hold, truth_itself};
-use fp_logic::implications::discharged;
+use fp_logic::implications::{disch_known, mp_known};
 use fp_logic::instances::instance_of;
-use fp_logic::steps::{assumed, combine, given, own, replace};
-use fp_logic::truths::true_equation;
+use fp_logic::truths::eqt_known;
 use fp_term::{Name, Term};
 use std::alloc::{AllocError, Global};
 
@@ -57,11 +55,12 @@ fn from_other(alloc: Global) -> Result<Term, AllocError>
 // `r` from `T --> r` itself.
 fn reached(alloc: Global, defs: &Defs, term: &Term) -> Result<Thm, AllocError>
     requires { term.now ≡ implication true_constant r_variable }
-    ensures { IfOk result (λ th. th ≡ by_one defs.now (from_itself defs.now (implication true_constant r_variable)) r_variable) }
+    ensures { IfOk result (λ th. th ≡ by_one defs.now (from_itself defs.now (implication true_constant r_variable))
+        r_variable) }
 {
-    let itself = assumed(alloc, defs, term)?;
+    let itself = defs.assume_known(alloc, term)?;
     let truth = truth_itself(alloc, defs)?;
-    passed_on(alloc, defs, &itself, &truth)
+    mp_known(alloc, defs, &itself, &truth)
 }
 
 // `m --> l --> p` from `p`, without the hypotheses `l` and `m`, for formulas.
@@ -75,10 +74,11 @@ fn discharged_twice(
     requires within { Within a.now.defs defs.now }
     requires first { IsFormula (signature_of defs.now) first.now }
     requires second { IsFormula (signature_of defs.now) second.now }
-    ensures { IfOk result (λ th. th ≡ without_both defs.now first.now second.now a.now (implication second.now (implication first.now a.now.concl))) }
+    ensures { IfOk result (λ th. th ≡ without_both defs.now first.now second.now a.now (implication second.now
+        (implication first.now a.now.concl))) }
 {
-    let once = discharged(alloc, defs, first, a)?;
-    discharged(alloc, defs, second, &once)
+    let once = disch_known(alloc, defs, first, a)?;
+    disch_known(alloc, defs, second, &once)
 }
 
 // `(T --> r) --> (q --> r) --> r`, by the two assumptions.
@@ -137,7 +137,7 @@ fn abstracted(alloc: Global, defs: &Defs, th: &Thm) -> Result<Thm, AllocError>
 {
     let name = Name::of(alloc, b"r")?;
     let ty = truth_type(alloc)?;
-    given(defs.lam(alloc, &name, &ty, th))
+    defs.lam_known(alloc, &name, &ty, th)
 }
 
 // `(%r. p) = (%r. T)` from `p` without hypotheses, for the variable `r`.
@@ -145,7 +145,7 @@ fn generalized(alloc: Global, defs: &Defs, th: &Thm) -> Result<Thm, AllocError>
     requires { th.now ≡ plain defs.now th.now.concl }
     ensures { IfOk result (λ g. g ≡ plain defs.now (true_for_all_r th.now.concl)) }
 {
-    let equation = true_equation(alloc, defs, th)?;
+    let equation = eqt_known(alloc, defs, th)?;
     abstracted(alloc, defs, &equation)
 }
 
@@ -207,7 +207,7 @@ fn own_or(alloc: Global, defs: &Defs) -> Result<Thm, AllocError>
     ensures { IfOk result (λ th. th ≡ plain defs.now or_is_itself) }
 {
     let or = connective(alloc, b"or")?;
-    own(alloc, defs, &or)
+    defs.refl_known(alloc, &or)
 }
 
 // `or T = or p` from `T = p`.
@@ -218,7 +218,7 @@ fn or_replaced(alloc: Global, defs: &Defs, th: &Thm) -> Result<Thm, AllocError>
     let _hyps = th.hyps();
     let _promises = th.promises();
     let or = own_or(alloc, defs)?;
-    combine(alloc, defs, &or, th)
+    defs.mk_comb_known(alloc, &or, th)
 }
 
 // `(T \/ t) = (p \/ t)` from `T = p`.
@@ -228,8 +228,8 @@ fn first_replaced(alloc: Global, defs: &Defs, th: &Thm, term: &Term) -> Result<T
     ensures { IfOk result (λ e. e ≡ by_one defs.now th.now (truth_first_is (right th.now.concl) term.now)) }
 {
     let once = or_replaced(alloc, defs, th)?;
-    let own = own(alloc, defs, term)?;
-    combine(alloc, defs, &once, &own)
+    let own = defs.refl_known(alloc, term)?;
+    defs.mk_comb_known(alloc, &once, &own)
 }
 
 // `or t = or t`
@@ -240,7 +240,7 @@ fn own_or_at(alloc: Global, defs: &Defs, term: &Term) -> Result<Thm, AllocError>
 {
     let or = connective(alloc, b"or")?;
     let applied = apply(alloc, &or, term)?;
-    own(alloc, defs, &applied)
+    defs.refl_known(alloc, &applied)
 }
 
 // `(t \/ T) = (t \/ p)` from `T = p`.
@@ -252,7 +252,7 @@ fn second_replaced(alloc: Global, defs: &Defs, th: &Thm, term: &Term) -> Result<
     let _hyps = th.hyps();
     let _promises = th.promises();
     let once = own_or_at(alloc, defs, term)?;
-    combine(alloc, defs, &once, th)
+    defs.mk_comb_known(alloc, &once, th)
 }
 
 // `(T \/ t) = (p \/ t)` from `p`, for a formula `t`.
@@ -293,42 +293,44 @@ fn second_truth(alloc: Global, defs: &Defs, term: &Term) -> Result<Thm, AllocErr
     instance_of(alloc, defs, &schema, term, term)
 }
 
-// `p \/ t` from `p`, for a formula `t`.
-fn joined_first(alloc: Global, defs: &Defs, a: &Thm, term: &Term) -> Result<Thm, AllocError>
+/// `p \/ t` from `p`, for a formula `t`.
+pub fn disj1_known(alloc: Global, defs: &Defs, a: &Thm, term: &Term) -> Result<Thm, AllocError>
     requires within { Within a.now.defs defs.now }
     requires formula { IsFormula (signature_of defs.now) term.now }
     ensures { IfOk result (λ th. th ≡ by_one defs.now a.now (disjunction a.now.concl term.now)) }
 {
     let equation = first_equation(alloc, defs, a, term)?;
     let truth = first_truth(alloc, defs, term)?;
-    replace(alloc, defs, &equation, &truth)
+    defs.eq_mp_known(alloc, &equation, &truth)
 }
 
-// `t \/ p` from `p`, for a formula `t`.
-fn joined_second(alloc: Global, defs: &Defs, term: &Term, a: &Thm) -> Result<Thm, AllocError>
+/// `t \/ p` from `p`, for a formula `t`.
+pub fn disj2_known(alloc: Global, defs: &Defs, term: &Term, a: &Thm) -> Result<Thm, AllocError>
     requires within { Within a.now.defs defs.now }
     requires formula { IsFormula (signature_of defs.now) term.now }
     ensures { IfOk result (λ th. th ≡ by_one defs.now a.now (disjunction term.now a.now.concl)) }
 {
     let equation = second_equation(alloc, defs, term, a)?;
     let truth = second_truth(alloc, defs, term)?;
-    replace(alloc, defs, &equation, &truth)
+    defs.eq_mp_known(alloc, &equation, &truth)
 }
 
 /// `p \/ t` from `p`.
 pub fn disj1(alloc: Global, defs: &Defs, a: &Thm, term: &Term) -> Result<Thm, RuleFault>
     requires { Within a.now.defs defs.now }
-    ensures { Answers result (from_one defs.now a.now a.now.hyps (disj1_of (signature_of defs.now) a.now.concl term.now)) }
+    ensures { Answers result (from_one defs.now a.now a.now.hyps (disj1_of (signature_of defs.now) a.now.concl
+        term.now)) }
 {
     let term = fp_conclude::assume(alloc, defs.signature(), term)?;
-    Ok(joined_first(alloc, defs, a, &term)?)
+    Ok(disj1_known(alloc, defs, a, &term)?)
 }
 
 /// `t \/ p` from `p`.
 pub fn disj2(alloc: Global, defs: &Defs, term: &Term, a: &Thm) -> Result<Thm, RuleFault>
     requires { Within a.now.defs defs.now }
-    ensures { Answers result (from_one defs.now a.now a.now.hyps (disj2_of (signature_of defs.now) term.now a.now.concl)) }
+    ensures { Answers result (from_one defs.now a.now a.now.hyps (disj2_of (signature_of defs.now) term.now
+        a.now.concl)) }
 {
     let term = fp_conclude::assume(alloc, defs.signature(), term)?;
-    Ok(joined_second(alloc, defs, &term, a)?)
+    Ok(disj2_known(alloc, defs, &term, a)?)
 }

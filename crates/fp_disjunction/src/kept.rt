@@ -1,6 +1,6 @@
 //! `T \/ q` and `q \/ T`, each derived once and kept beside the definitions.
 ghost use Rattle.std.specs.Prelude.{◌≡◌, [], IfOk};
-ghost use Rattle.fp_logic.specs.Steps.{plain};
+ghost use Rattle.fp_kernel.specs.Theorems.{plain};
 ghost use Rattle.fp_disjunction.specs.Forms.{disjunction};
 ghost use Rattle.fp_disjunction.specs.Schemas.{joined_truth};
 

@@ -1,14 +1,15 @@
-//! Forms of falsity, negation and disjunction, each made by the rules alone.
+//! Forms of falsity, negation and disjunction, each made by the rules alone. Those whose names end in `_known` have the
+//! shape of their premises as their condition and are refused for want of memory alone; the others test it first.
 #![tactic(auto)]
 
-mod disjunctions;
-mod falsity;
-mod joining;
+pub mod disjunctions;
+pub mod falsity;
+pub mod joining;
 mod kept;
-mod negation;
+pub mod negation;
 mod parts;
 
-pub use disjunctions::cases;
-pub use falsity::false_elim;
-pub use joining::{disj1, disj2};
-pub use negation::{eqf, not_elim, not_intro};
+pub use disjunctions::{cases, cases_known};
+pub use falsity::{false_elim, false_elim_known};
+pub use joining::{disj1, disj1_known, disj2, disj2_known};
+pub use negation::{eqf, eqf_known, not_elim, not_elim_known, not_intro, not_intro_known};

@@ -10,7 +10,8 @@ use std::alloc::{AllocError, Global};
 /// The parts of `p \/ q`.
 #[tactic(auto, unfolding(fp_term::specs::Names::is_name))]
 pub fn disjunction_parts(alloc: Global, term: &Term) -> Result<Option<(&Term, &Term)>, AllocError>
-    ensures { IfOk result (λ o. MatchOption o (disjunction_parts term.now ≡ None) (λ p. disjunction_parts term.now ≡ Some (p.0.now, p.1.now))) }
+    ensures { IfOk result (λ o. MatchOption o (disjunction_parts term.now ≡ None) (λ p. disjunction_parts term.now
+        ≡ Some (p.0.now, p.1.now))) }
 {
     parts_by(alloc, b"or", term)
 }

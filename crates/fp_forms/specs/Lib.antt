@@ -1,5 +1,4 @@
 pub mod Forms
-pub mod Shapes
 pub mod Schemas
 pub mod Lemmas
 pub mod Quantified

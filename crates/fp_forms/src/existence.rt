@@ -113,7 +113,8 @@ fn variable_at_choice(alloc: Global) -> Result<Term, AllocError>
 
 // `P x --> P (select P)`, with the number 0 for `x`.
 fn choice_body(alloc: Global) -> Result<Term, AllocError>
-    ensures { IfOk result (λ t. t ≡ implication (app predicate_variable (bound 0)) (at_choice alpha predicate_variable)) }
+    ensures { IfOk result (λ t. t ≡ implication (app predicate_variable (bound 0))
+        (at_choice alpha predicate_variable)) }
 {
     let held = held_by_number(alloc)?;
     let chosen = variable_at_choice(alloc)?;

@@ -6,7 +6,6 @@ pub mod existence;
 mod lemma;
 mod parts;
 mod quantifiers;
-pub mod shapes;
 mod statements;
 mod variables;
 

@@ -14,7 +14,8 @@ pub fn parts_by<'a>(
     term: &'a Term,
 ) -> Result<Option<(&'a Term, &'a Term)>, AllocError>
     requires { IsTrue (is_name name.now) }
-    ensures { IfOk result (λ o. MatchOption o (parts_by name.now term.now ≡ None) (λ p. parts_by name.now term.now ≡ Some (p.0.now, p.1.now))) }
+    ensures { IfOk result (λ o. MatchOption o (parts_by name.now term.now ≡ None) (λ p. parts_by name.now term.now
+        ≡ Some (p.0.now, p.1.now))) }
 {
     let Node::App { fun, arg: right } = term.node() else {
         return Ok(None);
@@ -37,7 +38,8 @@ pub fn parts_by<'a>(
 /// The parts of `p /\ q`.
 #[tactic(auto, unfolding(fp_term::specs::Names::is_name))]
 pub fn conjunction_parts(alloc: Global, term: &Term) -> Result<Option<(&Term, &Term)>, AllocError>
-    ensures { IfOk result (λ o. MatchOption o (conjunction_parts term.now ≡ None) (λ p. conjunction_parts term.now ≡ Some (p.0.now, p.1.now))) }
+    ensures { IfOk result (λ o. MatchOption o (conjunction_parts term.now ≡ None) (λ p. conjunction_parts term.now
+        ≡ Some (p.0.now, p.1.now))) }
 {
     parts_by(alloc, b"and", term)
 }
@@ -45,7 +47,8 @@ pub fn conjunction_parts(alloc: Global, term: &Term) -> Result<Option<(&Term, &T
 /// The parts of `p --> q`.
 #[tactic(auto, unfolding(fp_term::specs::Names::is_name))]
 pub fn implication_parts(alloc: Global, term: &Term) -> Result<Option<(&Term, &Term)>, AllocError>
-    ensures { IfOk result (λ o. MatchOption o (implication_parts term.now ≡ None) (λ p. implication_parts term.now ≡ Some (p.0.now, p.1.now))) }
+    ensures { IfOk result (λ o. MatchOption o (implication_parts term.now ≡ None) (λ p. implication_parts term.now
+        ≡ Some (p.0.now, p.1.now))) }
 {
     parts_by(alloc, b"imp", term)
 }

@@ -26,7 +26,8 @@ fn parts_of<'a>(
     term: &'a Term,
 ) -> Result<Option<(&'a Ty, &'a Term)>, AllocError>
     requires { IsTrue (is_name name.now) }
-    ensures { IfOk result (λ o. MatchOption o (quantified name.now term.now ≡ None) (λ p. quantified name.now term.now ≡ Some (p.0.now, p.1.now))) }
+    ensures { IfOk result (λ o. MatchOption o (quantified name.now term.now ≡ None)
+        (λ p. quantified name.now term.now ≡ Some (p.0.now, p.1.now))) }
 {
     let Node::App {
         fun,
@@ -56,8 +57,10 @@ pub fn quantified<'a>(
     term: &'a Term,
 ) -> Result<Option<(&'a Ty, &'a Term)>, AllocError>
     requires { IsTrue (is_name name.now) }
-    ensures parts { IfOk result (λ o. MatchOption o (quantified name.now term.now ≡ None) (λ p. quantified name.now term.now ≡ Some (p.0.now, p.1.now))) }
-    ensures exact { IfOk result (λ o. MatchOption o ((s : Typ) → (p : Tm) → term.now ≡ app (quantifier name.now s) p → ⊥) (λ p. term.now ≡ app (quantifier name.now p.0.now) p.1.now)) }
+    ensures parts { IfOk result (λ o. MatchOption o (quantified name.now term.now ≡ None)
+        (λ p. quantified name.now term.now ≡ Some (p.0.now, p.1.now))) }
+    ensures exact { IfOk result (λ o. MatchOption o ((s : Typ) → (p : Tm) → term.now ≡ app (quantifier name.now s) p →
+        ⊥) (λ p. term.now ≡ app (quantifier name.now p.0.now) p.1.now)) }
 {
     parts_of(alloc, name, term)
 }
@@ -65,7 +68,8 @@ pub fn quantified<'a>(
 /// The type of `v` and the body of `?v. p`.
 #[tactic(auto, unfolding(fp_term::specs::Names::is_name))]
 pub fn existence_parts(alloc: Global, term: &Term) -> Result<Option<(&Ty, &Term)>, AllocError>
-    ensures { IfOk result (λ o. MatchOption o (existence_parts term.now ≡ None) (λ p. existence_parts term.now ≡ Some (p.0.now, p.1.now))) }
+    ensures { IfOk result (λ o. MatchOption o (existence_parts term.now ≡ None) (λ p. existence_parts term.now ≡ Some
+        (p.0.now, p.1.now))) }
 {
     let Node::App { fun, arg } = term.node() else {
         return Ok(None);

@@ -140,7 +140,8 @@ pub fn truths(alloc: Global) -> Result<Term, AllocError>
 
 // `(%f. f p q) c = (%f. f T T) c`, for the chooser `c`.
 fn choices(alloc: Global, first: bool) -> Result<Term, AllocError>
-    ensures { IfOk result (λ t. t ≡ equivalent (choice first p_variable q_variable) (choice first true_constant true_constant)) }
+    ensures { IfOk result (λ t. t ≡ equivalent (choice first p_variable q_variable)
+        (choice first true_constant true_constant)) }
 {
     let by = chooser(alloc, first)?;
     let left = apply(alloc, &applying_variables(alloc)?, &by)?;

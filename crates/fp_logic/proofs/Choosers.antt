@@ -5,9 +5,10 @@ use Rattle.fp_term.specs.Signatures.{IsWellTyped}
 use Rattle.fp_conclude.specs.Logic.{truth_type, predicate_type, binary_type, equal, true_constant}
 use Rattle.fp_kernel.specs.Definitions.{Def, whole}
 use Rattle.fp_kernel.specs.Start.{signature_of}
-use Rattle.fp_kernel.specs.Theorems.{Theorem}
-use Rattle.fp_forms.specs.Shapes.{function_in, argument_in, body_in}
-use Rattle.fp_logic.specs.Steps.{plain, choice_schema, by_one, CanCombine, CanConvert, CanUnfold, unfolded}
+use Rattle.fp_kernel.specs.Theorems.{Theorem, plain, by_one}
+use Rattle.fp_conclude.specs.Shapes.{function_in, argument_in, body_in}
+use Rattle.fp_kernel.specs.Known.{CanMkComb}
+use Rattle.fp_logic.specs.Steps.{choice_schema, CanConvert, CanUnfold, unfolded}
 use Rattle.fp_forms.specs.Schemas.{p_variable, q_variable, in_place, itself, both_true, chooser, chosen, chosen_from, choice}
 use Rattle.fp_forms.specs.Lemmas.{statement_of}
 use Rattle.fp_forms.specs.declared.lemma.Lemma.TheVariants.{Choice}
@@ -49,7 +50,7 @@ same_choice true t = refl
 same_choice false t = refl
 
 -- the choices of two applications
-pub choices_ask : (defs : List Def) (a : Theorem) (b : Bool) (l r : Tm) → CanCombine defs (by_one defs a (both_true l r)) (plain defs (equal (binary_type truth_type truth_type) (chooser b) (chooser b)))
+pub choices_ask : (defs : List Def) (a : Theorem) (b : Bool) (l r : Tm) → CanMkComb defs (by_one defs a (both_true l r)) (plain defs (equal (binary_type truth_type truth_type) (chooser b) (chooser b)))
 choices_ask defs a b l r = (whole, whole, refl, refl)
 
 pub choice_from : (defs : List Def) (schema : Theorem) (b : Bool) (l r : Tm) → schema ≡ choice_schema defs b → plain defs (replaced (in_place l r) schema.concl) ≡ plain defs (equal truth_type (choice b l r) (chosen b l r))

@@ -6,11 +6,12 @@ use Rattle.fp_conclude.specs.Logic.{truth_type, binary_type, equal, true_constan
 use Rattle.fp_conclude.specs.Hypotheses.{IsSet}
 use Rattle.fp_conclude.proofs.Sets.{union_nothing}
 use Rattle.fp_kernel.specs.Definitions.{Def, whole}
-use Rattle.fp_kernel.specs.Theorems.{Theorem, ArePromises}
+use Rattle.fp_kernel.specs.Theorems.{Theorem, ArePromises, plain, by_one, by_both}
 use Rattle.fp_kernel.proofs.Promised.{promises_alone}
-use Rattle.fp_forms.specs.Shapes.{right}
+use Rattle.fp_conclude.specs.Shapes.{right}
 use Rattle.fp_forms.specs.Schemas.{held}
-use Rattle.fp_logic.specs.Steps.{plain, by_one, by_both, CanCombine, combined, CanReplace}
+use Rattle.fp_kernel.specs.Known.{CanMkComb, CanEqMp}
+use Rattle.fp_conclude.specs.Known.{mk_comb_concl}
 use Rattle.fp_logic.proofs.Begun.{from_nothing}
 
 abbrev own_and : Tm
@@ -20,25 +21,25 @@ own_and = let t = connective (codes "and") in equal (binary_type truth_type trut
 abbrev Is : List Def → Theorem → Tm → Type 0
 Is defs a p = a ≡ by_one defs a p
 
-once_at : (defs : List Def) (a : Theorem) (p : Tm) → CanCombine defs (plain defs own_and) (by_one defs a (held p))
+once_at : (defs : List Def) (a : Theorem) (p : Tm) → CanMkComb defs (plain defs own_and) (by_one defs a (held p))
 once_at defs a p = (whole, whole, refl, refl)
 
-pub once_asks : (defs : List Def) (a : Theorem) → Is defs a (held (right a.concl)) → CanCombine defs (plain defs own_and) a
-once_asks defs a e = subst (CanCombine defs (plain defs own_and)) (sym e) (once_at defs a (right a.concl))
+pub once_asks : (defs : List Def) (a : Theorem) → Is defs a (held (right a.concl)) → CanMkComb defs (plain defs own_and) a
+once_asks defs a e = subst (CanMkComb defs (plain defs own_and)) (sym e) (once_at defs a (right a.concl))
 
 abbrev Once : List Def → Theorem → Theorem
-Once defs a = by_both defs (plain defs own_and) a (combined own_and a.concl)
+Once defs a = by_both defs (plain defs own_and) a (mk_comb_concl own_and a.concl)
 
-twice_at : (defs : List Def) (a b : Theorem) (p q : Tm) → CanCombine defs (Once defs (by_one defs a (held p))) (by_one defs b (held q))
+twice_at : (defs : List Def) (a b : Theorem) (p q : Tm) → CanMkComb defs (Once defs (by_one defs a (held p))) (by_one defs b (held q))
 twice_at defs a b p q = (whole, whole, refl, refl)
 
-pub twice_asks : (defs : List Def) (a b : Theorem) → Is defs a (held (right a.concl)) → Is defs b (held (right b.concl)) → CanCombine defs (Once defs a) b
+pub twice_asks : (defs : List Def) (a b : Theorem) → Is defs a (held (right a.concl)) → Is defs b (held (right b.concl)) → CanMkComb defs (Once defs a) b
 twice_asks defs a b e f =
-    subst (λ (x : Theorem). CanCombine defs (Once defs x) b) (sym e)
-    (subst (CanCombine defs (Once defs (by_one defs a (held (right a.concl))))) (sym f) (twice_at defs a b (right a.concl) (right b.concl)))
+    subst (λ (x : Theorem). CanMkComb defs (Once defs x) b) (sym e)
+    (subst (CanMkComb defs (Once defs (by_one defs a (held (right a.concl))))) (sym f) (twice_at defs a b (right a.concl) (right b.concl)))
 
 abbrev Twice : List Def → Theorem → Theorem → Theorem
-Twice defs a b = by_both defs (Once defs a) b (combined (Once defs a).concl b.concl)
+Twice defs a b = by_both defs (Once defs a) b (mk_comb_concl (Once defs a).concl b.concl)
 
 abbrev Sides : Tm → Tm → Tm
 Sides p q = equal truth_type (conjunction true_constant true_constant) (conjunction p q)
@@ -55,8 +56,8 @@ twice_gives defs a b e f h k =
 abbrev Truths : Tm
 Truths = conjunction true_constant true_constant
 
-from_at : (defs : List Def) (a : Theorem) (p : Tm) → CanReplace defs (by_one defs a (equal truth_type Truths p)) (plain [] Truths)
+from_at : (defs : List Def) (a : Theorem) (p : Tm) → CanEqMp defs (by_one defs a (equal truth_type Truths p)) (plain [] Truths)
 from_at defs a p = (whole, from_nothing defs, refl)
 
-pub from_truths_asks : (defs : List Def) (a : Theorem) → Is defs a (equal truth_type Truths (right a.concl)) → CanReplace defs a (plain [] Truths)
-from_truths_asks defs a e = subst (λ (x : Theorem). CanReplace defs x (plain [] Truths)) (sym e) (from_at defs a (right a.concl))
+pub from_truths_asks : (defs : List Def) (a : Theorem) → Is defs a (equal truth_type Truths (right a.concl)) → CanEqMp defs a (plain [] Truths)
+from_truths_asks defs a e = subst (λ (x : Theorem). CanEqMp defs x (plain [] Truths)) (sym e) (from_at defs a (right a.concl))

@@ -8,7 +8,7 @@ use Rattle.fp_term.specs.Typing.{type_under, function_type}
 use Rattle.fp_term.proofs.Typed.{app_parts, same_function}
 use Rattle.fp_term.proofs.Choices.{chosen}
 use Rattle.fp_term.proofs.Equal.{type_eq-decides, term_eq-decides}
-use Rattle.fp_conclude.specs.Logic.{truth_type, predicate_type, binary_type, equal, true_constant, connective}
+use Rattle.fp_conclude.specs.Logic.{truth_type, predicate_type, binary_type, equal, true_constant, connective, implication}
 use Rattle.fp_conclude.specs.Parts.{equation}
 use Rattle.fp_conclude.specs.Outcomes.{gives, not_equation, not_bool, shape, differ}
 use Rattle.fp_conclude.proofs.Equations.{equation_shape}
@@ -24,7 +24,6 @@ use Rattle.fp_forms.specs.Forms.{parts_by, implication_parts}
 use Rattle.fp_logic.specs.Derived.{untrue, eqt_elim_of, mp_of}
 use Rattle.fp_logic.specs.Steps.{IsJoined}
 use Rattle.fp_logic.proofs.Turning.{lifted, lifted_sides}
-use Rattle.fp_conclude.specs.Logic.{implication}
 
 pub untrue_shape : (defs : List Def) (th : Theorem) (c : Tm) → Within th.defs defs → IsTheorem th → eqt_elim_of th.concl ≡ gives c → th.concl ≡ equal truth_type c true_constant
 untrue_shape defs th c w d e =

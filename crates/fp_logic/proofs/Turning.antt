@@ -11,12 +11,14 @@ use Rattle.fp_kernel.specs.Definitions.{Def, Within, whole}
 use Rattle.fp_kernel.specs.Start.{signature_of}
 use Rattle.fp_conclude.specs.Axioms.{true_is}
 use Rattle.fp_kernel.specs.Derivability.{IsFormula}
-use Rattle.fp_kernel.specs.Theorems.{Theorem, IsTheorem, ArePromises}
+use Rattle.fp_kernel.specs.Theorems.{Theorem, IsTheorem, ArePromises, plain, by_one, by_both}
 use Rattle.fp_kernel.proofs.Formulas.{formula_of, Sides, sides}
 use Rattle.fp_kernel.proofs.Later.{later_all}
 use Rattle.fp_kernel.proofs.Promised.{promises_alone}
-use Rattle.fp_forms.specs.Shapes.{side_type, left, right, IsEquation, IsEquationFrom}
-use Rattle.fp_logic.specs.Steps.{plain, by_one, by_both, CanCombine, combined, CanReplace, own_equality, CanTurn, turned, CanChain, chained, CanCarry, CanEstablish, CanConvert, CanFold}
+use Rattle.fp_conclude.specs.Shapes.{side_type, left, right, IsEquation, IsEquationFrom}
+use Rattle.fp_kernel.specs.Known.{CanMkComb, CanEqMp, CanTrans}
+use Rattle.fp_conclude.specs.Known.{mk_comb_concl, trans_concl}
+use Rattle.fp_logic.specs.Steps.{own_equality, CanTurn, turned, CanCarry, CanEstablish, CanConvert, CanFold}
 use Rattle.fp_forms.specs.Schemas.{true_meaning}
 
 -- whatever is concluded is a formula over each longer list
@@ -44,27 +46,27 @@ alone_after defs p q a h k = rw (union_nothing a.hyps h, promises_alone a.promis
 
 module _ (defs : List Def) (e a b c : Theorem) (h : CanTurn defs e a b c) where
   abbrev Applied : Theorem
-  Applied = by_both defs e a (combined e.concl a.concl)
+  Applied = by_both defs e a (mk_comb_concl e.concl a.concl)
 
   abbrev Both : Theorem
-  Both = by_both defs Applied b (combined Applied.concl b.concl)
+  Both = by_both defs Applied b (mk_comb_concl Applied.concl b.concl)
 
-  pub turn_first : CanCombine defs e a
+  pub turn_first : CanMkComb defs e a
   turn_first = rw h.0 (whole, h.1, refl, h.3)
 
   abbrev S : Typ
   S = side_type a.concl
 
-  second_at : (q : Tm) → q ≡ equal S (left a.concl) (right b.concl) → Within b.defs defs → CanCombine defs Applied (record b { concl = q })
+  second_at : (q : Tm) → q ≡ equal S (left a.concl) (right b.concl) → Within b.defs defs → CanMkComb defs Applied (record b { concl = q })
   second_at q is w = rw (is, h.0) (whole, w, refl, refl)
 
-  pub turn_second : CanCombine defs Applied b
+  pub turn_second : CanMkComb defs Applied b
   turn_second = second_at b.concl h.4 h.2
 
-  last_at : (q : Tm) → q ≡ equal S (left a.concl) (right b.concl) → CanReplace defs (by_both defs Applied (record b { concl = q }) (combined Applied.concl q)) c
+  last_at : (q : Tm) → q ≡ equal S (left a.concl) (right b.concl) → CanEqMp defs (by_both defs Applied (record b { concl = q }) (mk_comb_concl Applied.concl q)) c
   last_at q is = rw (is, h.0, h.5) (whole, whole, refl)
 
-  pub turn_last : CanReplace defs Both c
+  pub turn_last : CanEqMp defs Both c
   turn_last = last_at b.concl h.4
 
   pub turn_gives : IsSet a.hyps → ArePromises a.promises → by_both defs Both c (right Both.concl) ≡ by_both defs a b (turned a.concl b.concl)
@@ -92,27 +94,27 @@ module _ (defs : List Def) (a b c d : Theorem) (h : CanCarry defs a b c d) where
   pub carry_asks : CanTurn defs (plain defs (own_equality truth_type)) a b c
   carry_asks = rw (← at_truth) (refl, h.0, h.1, h.2, h.3, h.4)
 
-  carried_from : (p : Tm) → p ≡ equal truth_type (left a.concl) (right a.concl) → CanReplace defs (by_both defs a b (equal (side_type p) (right p) (right b.concl))) (plain defs (right p))
+  carried_from : (p : Tm) → p ≡ equal truth_type (left a.concl) (right a.concl) → CanEqMp defs (by_both defs a b (equal (side_type p) (right p) (right b.concl))) (plain defs (right p))
   carried_from p e = rw e (whole, whole, refl)
 
-  pub carry_last : CanReplace defs (by_both defs a b (turned a.concl b.concl)) d
+  pub carry_last : CanEqMp defs (by_both defs a b (turned a.concl b.concl)) d
   carry_last = rw h.5 (carried_from a.concl h.2)
 
   pub carry_gives : by_both defs (by_both defs a b (turned a.concl b.concl)) d (right (turned a.concl b.concl)) ≡ by_both defs a b (right b.concl)
   carry_gives = rw h.5 refl
 
 -- from an equation with `T`
-pub meaning_asks : (defs : List Def) (a : Theorem) (p : Tm) → Within a.defs defs → p ≡ equal truth_type (left p) true_constant → CanChain defs (by_one a.defs a p) (plain defs true_is)
+pub meaning_asks : (defs : List Def) (a : Theorem) (p : Tm) → Within a.defs defs → p ≡ equal truth_type (left p) true_constant → CanTrans defs (by_one a.defs a p) (plain defs true_is)
 meaning_asks defs a p w e = rw e (w, whole, refl, refl)
 
-pub meaning_gives : (p : Tm) → p ≡ equal truth_type (left p) true_constant → chained p true_is ≡ equal truth_type (left p) true_meaning
+pub meaning_gives : (p : Tm) → p ≡ equal truth_type (left p) true_constant → trans_concl p true_is ≡ equal truth_type (left p) true_meaning
 meaning_gives p e = rw e refl
 
 pub establish_asks : (defs : List Def) (a b c : Theorem) → CanEstablish defs a b c → CanCarry defs (by_one defs a (equal truth_type (left a.concl) true_meaning)) b c (plain defs true_meaning)
 establish_asks defs a b c h = (whole, h.1, refl, h.3, h.4, refl)
 
 -- an equation without hypotheses before a theorem
-pub convert_asks : (defs : List Def) (a b : Theorem) → CanConvert defs a b → CanReplace defs a b
+pub convert_asks : (defs : List Def) (a b : Theorem) → CanConvert defs a b → CanEqMp defs a b
 convert_asks defs a b h = (subst (λ (x : List Def). Within x defs) (sym (ap (λ (x : Theorem). x.defs) h.0)) whole, h.1, h.2)
 
 pub convert_gives : (defs : List Def) (a b : Theorem) → a ≡ plain defs a.concl → IsSet b.hyps → ArePromises b.promises → (q : Tm) → by_both defs a b q ≡ by_one defs b q

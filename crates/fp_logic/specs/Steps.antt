@@ -1,59 +1,21 @@
 -- What the rules give on premises of a known form.
-use Rattle.std.specs.Prelude.{◌≡◌, ℕ, Bool, List, [], ◌∷◌, Result, Ok, Err, codes}
+use Rattle.fp_kernel.specs.Known.{CanMkComb}
+use Rattle.std.specs.Prelude.{◌≡◌, ℕ, Bool, List, [], ◌∷◌, codes}
 use Rattle.fp_term.specs.Types.{Typ}
 use Rattle.fp_term.specs.Terms.{Tm, constant, app, opened}
 use Rattle.fp_term.specs.Names.{equality}
 use Rattle.fp_conclude.specs.Logic.{truth_type, equality_type, equal, true_constant, connective}
-use Rattle.fp_conclude.specs.Hypotheses.{union, without}
-use Rattle.fp_conclude.specs.declared.fault.RuleFault.{RuleFault}
-use Rattle.fp_conclude.specs.declared.fault.RuleFault.TheVariants.{NoMemory}
+use Rattle.fp_conclude.specs.Hypotheses.{without}
 use Rattle.fp_kernel.specs.Definitions.{Def, Within}
 use Rattle.fp_kernel.specs.Start.{signature_of}
 use Rattle.fp_kernel.specs.Derivability.{IsFormula}
-use Rattle.fp_kernel.specs.Theorems.{Theorem, promise_union}
+use Rattle.fp_kernel.specs.Theorems.{Theorem, plain}
 use Rattle.fp_forms.specs.Schemas.{p_variable, q_variable, held, itself, choice, chosen}
-use Rattle.fp_forms.specs.Shapes.{side_type, target, left, right, body_in, IsEquation, IsEquationOn, IsEquationFrom, IsAbstraction}
-
--- a theorem without hypotheses and promises, and with those of one and of two others
-abbrev pub plain : List Def → Tm → Theorem
-plain defs p = record { defs = defs; promises = []; hyps = []; concl = p }
-
-abbrev pub from_itself : List Def → Tm → Theorem
-from_itself defs p = record { defs = defs; promises = []; hyps = p ∷ []; concl = p }
-
-abbrev pub by_one : List Def → Theorem → Tm → Theorem
-by_one defs a p = record { defs = defs; promises = a.promises; hyps = a.hyps; concl = p }
-
-abbrev pub by_both : List Def → Theorem → Theorem → Tm → Theorem
-by_both defs a b p = record { defs = defs; promises = promise_union a.promises b.promises; hyps = union a.hyps b.hyps; concl = p }
-
--- nothing but memory was wanting
-abbrev pub IsGiven : Result Theorem RuleFault → Type 0
-IsGiven (Ok th) = Unit {0}
-IsGiven (Err fault) = fault ≡ NoMemory
-
--- what each rule asks of its premises, and what it concludes then
-abbrev pub CanChain : List Def → Theorem → Theorem → Type 0
-CanChain defs a b = Within a.defs defs × Within b.defs defs × IsEquation a.concl × IsEquationFrom (side_type a.concl) (right a.concl) b.concl
-
-abbrev pub chained : Tm → Tm → Tm
-chained p q = equal (side_type p) (left p) (right q)
-
-abbrev pub CanCombine : List Def → Theorem → Theorem → Type 0
-CanCombine defs a b = Within a.defs defs × Within b.defs defs × IsEquationOn (side_type b.concl) a.concl × IsEquation b.concl
-
-abbrev pub combined : Tm → Tm → Tm
-combined p q = equal (target (side_type p)) (app (left p) (left q)) (app (right p) (right q))
-
-abbrev pub CanReplace : List Def → Theorem → Theorem → Type 0
-CanReplace defs a b = Within a.defs defs × Within b.defs defs × IsEquationFrom (side_type a.concl) b.concl a.concl
-
-abbrev pub CanEquate : List Def → Theorem → Theorem → Type 0
-CanEquate defs a b = Within a.defs defs × Within b.defs defs
+use Rattle.fp_conclude.specs.Shapes.{side_type, target, left, right, body_in, IsEquation, IsEquationFrom, IsAbstraction}
 
 -- an equation with an abstraction, and one of arguments of it
 abbrev pub CanUnfold : List Def → Theorem → Theorem → Type 0
-CanUnfold defs a b = CanCombine defs a b × IsAbstraction (right a.concl)
+CanUnfold defs a b = CanMkComb defs a b × IsAbstraction (right a.concl)
 
 abbrev pub unfolded : Tm → Tm → Tm
 unfolded p q = equal (target (side_type p)) (app (left p) (left q)) (opened 0 (right q) (body_in (right p)))

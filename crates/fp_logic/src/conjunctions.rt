@@ -3,48 +3,51 @@ ghost use Rattle.std.specs.Prelude.{◌≡◌, codes, IfOk};
 ghost use Rattle.fp_conclude.specs.Logic.{truth_type, binary_type, equal, true_constant, connective, conjunction};
 ghost use Rattle.fp_conclude.specs.Outcomes.{Answers, gives};
 ghost use Rattle.fp_kernel.specs.Definitions.{Within};
-ghost use Rattle.fp_kernel.specs.Theorems.{from_one, from_both};
+ghost use Rattle.fp_kernel.specs.Theorems.{from_one, from_both, plain, by_one, by_both};
 ghost use Rattle.fp_logic.specs.Derived.{conj1_of, conj2_of};
 ghost use Rattle.fp_forms.specs.Schemas.{held};
-ghost use Rattle.fp_forms.specs.Shapes.{right};
-ghost use Rattle.fp_logic.specs.Steps.{plain, by_one, by_both};
+ghost use Rattle.fp_conclude.specs.Shapes.{right};
+ghost use Rattle.fp_logic.specs.Steps.{IsConjunction};
 
 use crate::choosing::conjunct;
 use crate::holding::hold;
 use crate::lemmas::recalled;
-use crate::steps::{combine, own, replace};
 use fp_conclude::{RuleFault, connective};
 use fp_forms::{Lemma, conjunction_parts};
 use fp_kernel::{Defs, Thm};
+use fp_term::Term;
 use std::alloc::{AllocError, Global};
 
 // `and = and`
 #[tactic(auto, unfolding(fp_term::specs::Names::is_name))]
 fn own_and(alloc: Global, defs: &Defs) -> Result<Thm, AllocError>
-    ensures { IfOk result (λ th. th ≡ plain defs.now (equal (binary_type truth_type truth_type) (connective (codes "and")) (connective (codes "and")))) }
+    ensures { IfOk result (λ th. th ≡ plain defs.now (equal (binary_type truth_type truth_type)
+        (connective (codes "and")) (connective (codes "and")))) }
 {
     let and = connective(alloc, b"and")?;
-    own(alloc, defs, &and)
+    defs.refl_known(alloc, &and)
 }
 
 // `(T /\ T) = (p /\ q)` from `T = p` and `T = q`.
 fn conjoined_sides(alloc: Global, defs: &Defs, first: &Thm, second: &Thm) -> Result<Thm, AllocError>
     requires first { first.now ≡ by_one defs.now first.now (held (right first.now.concl)) }
     requires second { second.now ≡ by_one defs.now second.now (held (right second.now.concl)) }
-    ensures { IfOk result (λ th. th ≡ by_both defs.now first.now second.now (equal truth_type (conjunction true_constant true_constant) (conjunction (right first.now.concl) (right second.now.concl)))) }
+    ensures { IfOk result (λ th. th ≡ by_both defs.now first.now second.now (equal truth_type
+        (conjunction true_constant true_constant) (conjunction (right first.now.concl) (right second.now.concl)))) }
 {
     let _hyps = first.hyps();
     let _promises = first.promises();
     let own = own_and(alloc, defs)?;
-    let once = combine(alloc, defs, &own, first)?;
-    combine(alloc, defs, &once, second)
+    let once = defs.mk_comb_known(alloc, &own, first)?;
+    defs.mk_comb_known(alloc, &once, second)
 }
 
 // `(T /\ T) = (p /\ q)` from `p` and `q`.
 fn conjoined_truths(alloc: Global, defs: &Defs, a: &Thm, b: &Thm) -> Result<Thm, AllocError>
     requires first_within { Within a.now.defs defs.now }
     requires second_within { Within b.now.defs defs.now }
-    ensures { IfOk result (λ th. th ≡ by_both defs.now a.now b.now (equal truth_type (conjunction true_constant true_constant) (conjunction a.now.concl b.now.concl))) }
+    ensures { IfOk result (λ th. th ≡ by_both defs.now a.now b.now (equal truth_type
+        (conjunction true_constant true_constant) (conjunction a.now.concl b.now.concl))) }
 {
     let first = hold(alloc, defs, a)?;
     let second = hold(alloc, defs, b)?;
@@ -53,15 +56,16 @@ fn conjoined_truths(alloc: Global, defs: &Defs, a: &Thm, b: &Thm) -> Result<Thm,
 
 // What follows from `(T /\ T) = p`.
 fn conclude_from(alloc: Global, defs: &Defs, th: &Thm) -> Result<Thm, AllocError>
-    requires { th.now ≡ by_one defs.now th.now (equal truth_type (conjunction true_constant true_constant) (right th.now.concl)) }
+    requires { th.now ≡ by_one defs.now th.now (equal truth_type (conjunction true_constant true_constant)
+        (right th.now.concl)) }
     ensures { IfOk result (λ p. p ≡ by_one defs.now th.now (right th.now.concl)) }
 {
     let truths = recalled(alloc, defs, Lemma::Truths)?;
-    replace(alloc, defs, th, &truths)
+    defs.eq_mp_known(alloc, th, &truths)
 }
 
-/// `p /\ q` from `p` and `q`, for formulas.
-pub fn conjoined(alloc: Global, defs: &Defs, a: &Thm, b: &Thm) -> Result<Thm, AllocError>
+/// `p /\ q` from `p` and `q`.
+pub fn conj_known(alloc: Global, defs: &Defs, a: &Thm, b: &Thm) -> Result<Thm, AllocError>
     requires first_within { Within a.now.defs defs.now }
     requires second_within { Within b.now.defs defs.now }
     ensures { IfOk result (λ th. th ≡ by_both defs.now a.now b.now (conjunction a.now.concl b.now.concl)) }
@@ -76,7 +80,21 @@ pub fn conj(alloc: Global, defs: &Defs, a: &Thm, b: &Thm) -> Result<Thm, RuleFau
     requires second_within { Within b.now.defs defs.now }
     ensures { Answers result (from_both defs.now a.now b.now (gives (conjunction a.now.concl b.now.concl))) }
 {
-    Ok(conjoined(alloc, defs, a, b)?)
+    Ok(conj_known(alloc, defs, a, b)?)
+}
+
+/// `l` from `l /\ r`.
+pub fn conj1_known(
+    alloc: Global,
+    defs: &Defs,
+    a: &Thm,
+    left: &Term,
+    right: &Term,
+) -> Result<Thm, AllocError>
+    requires { IsConjunction defs.now a.now left.now right.now }
+    ensures { IfOk result (λ th. th ≡ by_one defs.now a.now left.now) }
+{
+    conjunct(alloc, defs, true, a, left, right)
 }
 
 /// `p` from `p /\ q`.
@@ -88,7 +106,21 @@ pub fn conj1(alloc: Global, defs: &Defs, a: &Thm) -> Result<Thm, RuleFault>
     let Some((left, right)) = parts else {
         return Err(RuleFault::Shape);
     };
-    Ok(conjunct(alloc, defs, true, a, left, right)?)
+    Ok(conj1_known(alloc, defs, a, left, right)?)
+}
+
+/// `r` from `l /\ r`.
+pub fn conj2_known(
+    alloc: Global,
+    defs: &Defs,
+    a: &Thm,
+    left: &Term,
+    right: &Term,
+) -> Result<Thm, AllocError>
+    requires { IsConjunction defs.now a.now left.now right.now }
+    ensures { IfOk result (λ th. th ≡ by_one defs.now a.now right.now) }
+{
+    conjunct(alloc, defs, false, a, left, right)
 }
 
 /// `q` from `p /\ q`.
@@ -100,5 +132,5 @@ pub fn conj2(alloc: Global, defs: &Defs, a: &Thm) -> Result<Thm, RuleFault>
     let Some((left, right)) = parts else {
         return Err(RuleFault::Shape);
     };
-    Ok(conjunct(alloc, defs, false, a, left, right)?)
+    Ok(conj2_known(alloc, defs, a, left, right)?)
 }

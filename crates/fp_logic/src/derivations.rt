@@ -7,16 +7,14 @@ ghost use Rattle.fp_kernel.specs.Start.{signature_of};
 ghost use Rattle.fp_forms.specs.Lemmas.{equivalent, exchanged, statement_of};
 ghost use Rattle.fp_forms.specs.declared.lemma.Lemma.TheVariants.{Truthful, Untrue, Truths, Choice, Turned, Folded};
 ghost use Rattle.fp_forms.specs.Schemas.{p_variable, q_variable, both_true, choice, chosen};
-ghost use Rattle.fp_logic.specs.Steps.{plain, from_itself, by_one};
+ghost use Rattle.fp_kernel.specs.Theorems.{plain, from_itself, by_one};
 
 use crate::choosing::{choice_schema, truth_choice};
-use crate::equations::swap;
+use crate::equations::sym_known;
 use crate::holding::{fold, held_schema, truth_equality, truth_itself};
 use crate::instances::instance;
-use crate::steps::{assumed, chain, combine, equate, own};
 use crate::unfolding::{conjunction_schema, implication_schema};
-use fp_conclude::{true_constant, truth_type};
-use fp_forms::shapes::left;
+use fp_conclude::{left, true_constant, truth_type};
 use fp_forms::{
     Lemma, applying_truths, chosen, conjunction_of_variables, equivalent, p_variable, q_variable,
 };
@@ -27,12 +25,13 @@ use std::alloc::{AllocError, Global};
 // `right = left` from `left = right` itself.
 fn turned_round(alloc: Global, defs: &Defs, left: &Term, right: &Term) -> Result<Thm, AllocError>
     requires { IsFormula (signature_of defs.now) (equivalent left.now right.now) }
-    ensures { IfOk result (λ th. th ≡ by_one defs.now (from_itself defs.now (equivalent left.now right.now)) (equivalent right.now left.now)) }
+    ensures { IfOk result (λ th. th ≡ by_one defs.now (from_itself defs.now (equivalent left.now right.now))
+        (equivalent right.now left.now)) }
 {
     let ty = truth_type(alloc)?;
     let equation = equivalent(alloc, left, right)?;
-    let itself = assumed(alloc, defs, &equation)?;
-    swap(alloc, defs, &itself, &ty, left)
+    let itself = defs.assume_known(alloc, &equation)?;
+    sym_known(alloc, defs, &itself, &ty, left)
 }
 
 // `(p = q) = (q = p)`
@@ -43,7 +42,7 @@ fn exchange_schema(alloc: Global, defs: &Defs) -> Result<Thm, AllocError>
     let right = q_variable(alloc)?;
     let first = turned_round(alloc, defs, &right, &left)?;
     let second = turned_round(alloc, defs, &left, &right)?;
-    equate(alloc, defs, &first, &second)
+    defs.antisym_known(alloc, &first, &second)
 }
 
 // `(l = r) = (r = l)`
@@ -71,7 +70,7 @@ fn truthful_schema(alloc: Global, defs: &Defs) -> Result<Thm, AllocError>
 {
     let held = held_schema(alloc, defs)?;
     let exchange = truth_exchange(alloc, defs)?;
-    chain(alloc, defs, &held, &exchange)
+    defs.trans_known(alloc, &held, &exchange)
 }
 
 // `(p = T) = p`
@@ -81,12 +80,13 @@ fn untrue_schema(alloc: Global, defs: &Defs) -> Result<Thm, AllocError>
     let ty = truth_type(alloc)?;
     let variable = p_variable(alloc)?;
     let truthful = truthful_schema(alloc, defs)?;
-    swap(alloc, defs, &truthful, &ty, &variable)
+    sym_known(alloc, defs, &truthful, &ty, &variable)
 }
 
 // `(T /\ T) = ((%f. f T T) = (%f. f T T))`
 fn truths_meaning(alloc: Global, defs: &Defs) -> Result<Thm, AllocError>
-    ensures { IfOk result (λ th. th ≡ plain defs.now (equivalent (conjunction true_constant true_constant) (both_true true_constant true_constant))) }
+    ensures { IfOk result (λ th. th ≡ plain defs.now (equivalent (conjunction true_constant true_constant)
+        (both_true true_constant true_constant))) }
 {
     let truth = true_constant(alloc)?;
     let schema = conjunction_schema(alloc, defs)?;
@@ -98,7 +98,7 @@ fn own_application(alloc: Global, defs: &Defs) -> Result<Thm, AllocError>
     ensures { IfOk result (λ th. th ≡ plain defs.now (both_true true_constant true_constant)) }
 {
     let term = applying_truths(alloc)?;
-    own(alloc, defs, &term)
+    defs.refl_known(alloc, &term)
 }
 
 // `T /\ T`
@@ -112,18 +112,21 @@ fn truths_schema(alloc: Global, defs: &Defs) -> Result<Thm, AllocError>
 
 // `((%f. f p q) c = (%f. f T T) c) = (x = T)`, for the chooser `c`, by `(%f. f p q) c = x`.
 fn choices_by(alloc: Global, defs: &Defs, first: bool, schema: &Thm) -> Result<Thm, AllocError>
-    requires { schema.now ≡ plain defs.now (equivalent (choice first p_variable q_variable) (chosen first p_variable q_variable)) }
-    ensures { IfOk result (λ th. th ≡ plain defs.now (equivalent (equivalent (choice first p_variable q_variable) (choice first true_constant true_constant)) (equivalent (chosen first p_variable q_variable) true_constant))) }
+    requires { schema.now ≡ plain defs.now (equivalent (choice first p_variable q_variable)
+        (chosen first p_variable q_variable)) }
+    ensures { IfOk result (λ th. th ≡ plain defs.now (equivalent (equivalent (choice first p_variable q_variable)
+        (choice first true_constant true_constant)) (equivalent (chosen first p_variable q_variable) true_constant))) }
 {
     let equality = truth_equality(alloc, defs)?;
-    let applied = combine(alloc, defs, &equality, schema)?;
+    let applied = defs.mk_comb_known(alloc, &equality, schema)?;
     let truth = truth_choice(alloc, defs, schema, first)?;
-    combine(alloc, defs, &applied, &truth)
+    defs.mk_comb_known(alloc, &applied, &truth)
 }
 
 // `(x = T) = x`, for `p` or `q`.
 fn untrue_chosen(alloc: Global, defs: &Defs, first: bool) -> Result<Thm, AllocError>
-    ensures { IfOk result (λ th. th ≡ plain defs.now (equivalent (equivalent (chosen first p_variable q_variable) true_constant) (chosen first p_variable q_variable))) }
+    ensures { IfOk result (λ th. th ≡ plain defs.now (equivalent (equivalent (chosen first p_variable q_variable)
+        true_constant) (chosen first p_variable q_variable))) }
 {
     let variable = chosen(alloc, first)?;
     let schema = untrue_schema(alloc, defs)?;
@@ -137,7 +140,7 @@ fn choice_lemma(alloc: Global, defs: &Defs, first: bool) -> Result<Thm, AllocErr
     let schema = choice_schema(alloc, defs, first)?;
     let choices = choices_by(alloc, defs, first, &schema)?;
     let untrue = untrue_chosen(alloc, defs, first)?;
-    chain(alloc, defs, &choices, &untrue)
+    defs.trans_known(alloc, &choices, &untrue)
 }
 
 // `((p /\ q) = p) = (p = (p /\ q))`
@@ -155,7 +158,7 @@ fn turned_schema(alloc: Global, defs: &Defs) -> Result<Thm, AllocError>
 {
     let implied = implication_schema(alloc, defs)?;
     let exchange = implied_exchange(alloc, defs)?;
-    chain(alloc, defs, &implied, &exchange)
+    defs.trans_known(alloc, &implied, &exchange)
 }
 
 // `((p /\ q) = p) = (p --> q)`
@@ -164,7 +167,7 @@ fn folded_schema(alloc: Global, defs: &Defs) -> Result<Thm, AllocError>
 {
     let ty = truth_type(alloc)?;
     let implied = implication_schema(alloc, defs)?;
-    swap(alloc, defs, &implied, &ty, left(implied.concl()))
+    sym_known(alloc, defs, &implied, &ty, left(implied.concl()))
 }
 
 /// The lemma, derived.

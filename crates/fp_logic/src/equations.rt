@@ -6,12 +6,11 @@ ghost use Rattle.fp_term.specs.Signatures.{IsWellTyped};
 ghost use Rattle.fp_conclude.specs.Logic.{equality_type, equal};
 ghost use Rattle.fp_kernel.specs.Definitions.{Within};
 ghost use Rattle.fp_kernel.specs.Start.{signature_of};
-ghost use Rattle.fp_forms.specs.Shapes.{side_type, left, right, function_in, argument_in, body_in, IsEquation, IsRedex};
-ghost use Rattle.fp_logic.specs.Steps.{plain, by_one, by_both, CanUnfold, unfolded, own_equality, CanTurn, turned};
+ghost use Rattle.fp_conclude.specs.Shapes.{side_type, left, right, function_in, argument_in, body_in, IsEquation, IsRedex};
+ghost use Rattle.fp_kernel.specs.Theorems.{plain, by_one, by_both};
+ghost use Rattle.fp_logic.specs.Steps.{CanUnfold, unfolded, own_equality, CanTurn, turned};
 
-use crate::steps::{chain, combine, own, reduced, replace};
-use fp_conclude::equality_at;
-use fp_forms::shapes::right;
+use fp_conclude::{equality_at, right};
 use fp_kernel::{Defs, Thm};
 use fp_term::{Term, Ty};
 use std::alloc::{AllocError, Global};
@@ -21,9 +20,10 @@ fn reduced_right(alloc: Global, defs: &Defs, th: &Thm) -> Result<Thm, AllocError
     requires over { th.now.defs ≡ defs.now }
     requires equation { IsEquation th.now.concl }
     requires redex { IsRedex (right th.now.concl) }
-    ensures { IfOk result (λ r. r ≡ plain defs.now (equal (side_type th.now.concl) (right th.now.concl) (opened 0 (argument_in (right th.now.concl)) (body_in (function_in (right th.now.concl)))))) }
+    ensures { IfOk result (λ r. r ≡ plain defs.now (equal (side_type th.now.concl) (right th.now.concl)
+        (opened 0 (argument_in (right th.now.concl)) (body_in (function_in (right th.now.concl)))))) }
 {
-    reduced(alloc, defs, right(th.concl()))
+    defs.beta_known(alloc, right(th.concl()))
 }
 
 /// `f x = b` with `x` for `v`, from `f = (%v. b)` and `x = x`.
@@ -31,9 +31,9 @@ pub fn unfold(alloc: Global, defs: &Defs, th: &Thm, own: &Thm) -> Result<Thm, Al
     requires { CanUnfold defs.now th.now own.now }
     ensures { IfOk result (λ u. u ≡ by_both defs.now th.now own.now (unfolded th.now.concl own.now.concl)) }
 {
-    let applied = combine(alloc, defs, th, own)?;
+    let applied = defs.mk_comb_known(alloc, th, own)?;
     let step = reduced_right(alloc, defs, &applied)?;
-    chain(alloc, defs, &applied, &step)
+    defs.trans_known(alloc, &applied, &step)
 }
 
 /// That equality at the type is itself.
@@ -42,7 +42,7 @@ pub fn equality_of(alloc: Global, defs: &Defs, ty: &Ty) -> Result<Thm, AllocErro
     ensures { IfOk result (λ e. e ≡ plain defs.now (own_equality ty.now)) }
 {
     let term = equality_at(alloc, ty)?;
-    own(alloc, defs, &term)
+    defs.refl_known(alloc, &term)
 }
 
 /// `t = u` from `s = t`, `s = u` and `s = s`.
@@ -55,23 +55,30 @@ pub fn turn(
     own: &Thm,
 ) -> Result<Thm, AllocError>
     requires { CanTurn defs.now equality.now first.now second.now own.now }
-    ensures { IfOk result (λ th. th ≡ by_both defs.now first.now second.now (turned first.now.concl second.now.concl)) }
+    ensures { IfOk result (λ th. th ≡ by_both defs.now first.now second.now
+        (turned first.now.concl second.now.concl)) }
 {
     let _hyps = first.hyps();
     let _promises = first.promises();
-    let applied = combine(alloc, defs, equality, first)?;
-    let both = combine(alloc, defs, &applied, second)?;
-    replace(alloc, defs, &both, own)
+    let applied = defs.mk_comb_known(alloc, equality, first)?;
+    let both = defs.mk_comb_known(alloc, &applied, second)?;
+    defs.eq_mp_known(alloc, &both, own)
 }
 
 /// `t = s` from `s = t`.
-pub fn swap(alloc: Global, defs: &Defs, th: &Thm, ty: &Ty, left: &Term) -> Result<Thm, AllocError>
+pub fn sym_known(
+    alloc: Global,
+    defs: &Defs,
+    th: &Thm,
+    ty: &Ty,
+    left: &Term,
+) -> Result<Thm, AllocError>
     requires within { Within th.now.defs defs.now }
     requires equation { th.now.concl ≡ equal ty.now left.now (right th.now.concl) }
     ensures { IfOk result (λ s. s ≡ by_one defs.now th.now (equal ty.now (right th.now.concl) left.now)) }
 {
     let _concl = th.concl();
     let equality = equality_of(alloc, defs, ty)?;
-    let own = own(alloc, defs, left)?;
+    let own = defs.refl_known(alloc, left)?;
     turn(alloc, defs, &equality, th, &own, &own)
 }

@@ -2,15 +2,15 @@
 ghost use Rattle.std.specs.Prelude.{◌≡◌, IfOk};
 ghost use Rattle.fp_conclude.specs.Logic.{truth_type, equal, true_constant};
 ghost use Rattle.fp_kernel.specs.Definitions.{Within};
-ghost use Rattle.fp_forms.specs.Shapes.{left, right};
-ghost use Rattle.fp_logic.specs.Steps.{plain, from_itself, by_one, by_both, own_equality, CanCarry, CanEstablish, CanConvert, CanFold};
+ghost use Rattle.fp_conclude.specs.Shapes.{left, right};
+ghost use Rattle.fp_kernel.specs.Theorems.{plain, from_itself, by_one, by_both};
+ghost use Rattle.fp_logic.specs.Steps.{own_equality, CanCarry, CanEstablish, CanConvert, CanFold};
 ghost use Rattle.fp_forms.specs.Schemas.{p_variable, identity, true_meaning, held};
 
-use crate::equations::{equality_of, swap, turn};
+use crate::equations::{equality_of, sym_known, turn};
 use crate::lemmas::lemma_at;
-use crate::steps::{assumed, chain, definition, equate, own, replace};
-use fp_conclude::{true_constant, truth_type};
-use fp_forms::{Lemma, held_variable, identity, p_variable, shapes};
+use fp_conclude::{LogicalConstant, true_constant, truth_type};
+use fp_forms::{Lemma, held_variable, identity, p_variable};
 use fp_kernel::{Defs, Thm};
 use fp_term::Term;
 use std::alloc::{AllocError, Global};
@@ -37,7 +37,7 @@ pub fn carry(
 {
     let equality = truth_equality(alloc, defs)?;
     let turned = turn(alloc, defs, &equality, first, second, own)?;
-    replace(alloc, defs, &turned, third)
+    defs.eq_mp_known(alloc, &turned, third)
 }
 
 // `(%p. p) = (%p. p)`
@@ -45,7 +45,7 @@ fn own_identity(alloc: Global, defs: &Defs) -> Result<Thm, AllocError>
     ensures { IfOk result (λ th. th ≡ plain defs.now true_meaning) }
 {
     let term = identity(alloc)?;
-    own(alloc, defs, &term)
+    defs.refl_known(alloc, &term)
 }
 
 // `s = ((%p. p) = (%p. p))` from `s = T`.
@@ -54,8 +54,8 @@ fn with_meaning(alloc: Global, defs: &Defs, th: &Thm) -> Result<Thm, AllocError>
     requires shape { th.now.concl ≡ equal truth_type (left th.now.concl) true_constant }
     ensures { IfOk result (λ m. m ≡ by_one defs.now th.now (equal truth_type (left th.now.concl) true_meaning)) }
 {
-    let meaning = definition(alloc, defs, 1)?;
-    chain(alloc, defs, th, &meaning)
+    let meaning = defs.connective_known(alloc, LogicalConstant::Truth)?;
+    defs.trans_known(alloc, th, &meaning)
 }
 
 /// `u` from `s = T`, `s = u` and `s = s`.
@@ -79,7 +79,7 @@ fn own_truth(alloc: Global, defs: &Defs) -> Result<Thm, AllocError>
     ensures { IfOk result (λ th. th ≡ plain defs.now (held true_constant)) }
 {
     let term = true_constant(alloc)?;
-    own(alloc, defs, &term)
+    defs.refl_known(alloc, &term)
 }
 
 /// `T`
@@ -97,7 +97,7 @@ pub fn convert(alloc: Global, defs: &Defs, equation: &Thm, th: &Thm) -> Result<T
 {
     let _hyps = th.hyps();
     let _promises = th.promises();
-    replace(alloc, defs, equation, th)
+    defs.eq_mp_known(alloc, equation, th)
 }
 
 // `T = p` from `p`.
@@ -105,9 +105,9 @@ fn held_from(alloc: Global, defs: &Defs) -> Result<Thm, AllocError>
     ensures { IfOk result (λ th. th ≡ record (from_itself defs.now p_variable) { concl = held p_variable }) }
 {
     let term = p_variable(alloc)?;
-    let itself = assumed(alloc, defs, &term)?;
+    let itself = defs.assume_known(alloc, &term)?;
     let truth = truth_itself(alloc, defs)?;
-    equate(alloc, defs, &truth, &itself)
+    defs.antisym_known(alloc, &truth, &itself)
 }
 
 // `p` from `T = p`.
@@ -115,9 +115,9 @@ fn from_held(alloc: Global, defs: &Defs) -> Result<Thm, AllocError>
     ensures { IfOk result (λ th. th ≡ record (from_itself defs.now (held p_variable)) { concl = p_variable }) }
 {
     let held = held_variable(alloc)?;
-    let itself = assumed(alloc, defs, &held)?;
+    let itself = defs.assume_known(alloc, &held)?;
     let truth = truth_itself(alloc, defs)?;
-    replace(alloc, defs, &itself, &truth)
+    defs.eq_mp_known(alloc, &itself, &truth)
 }
 
 /// `p = (T = p)`
@@ -126,7 +126,7 @@ pub fn held_schema(alloc: Global, defs: &Defs) -> Result<Thm, AllocError>
 {
     let first = from_held(alloc, defs)?;
     let second = held_from(alloc, defs)?;
-    equate(alloc, defs, &first, &second)
+    defs.antisym_known(alloc, &first, &second)
 }
 
 /// `T = p` from `p`.
@@ -144,6 +144,12 @@ pub fn fold(alloc: Global, defs: &Defs, equation: &Thm, th: &Thm) -> Result<Thm,
     ensures { IfOk result (λ p. p ≡ by_one defs.now th.now (left equation.now.concl)) }
 {
     let ty = truth_type(alloc)?;
-    let swapped = swap(alloc, defs, equation, &ty, shapes::left(equation.concl()))?;
+    let swapped = sym_known(
+        alloc,
+        defs,
+        equation,
+        &ty,
+        fp_conclude::left(equation.concl()),
+    )?;
     convert(alloc, defs, &swapped, th)
 }

@@ -6,10 +6,9 @@ ghost use Rattle.fp_conclude.specs.Logic.{truth_type};
 ghost use Rattle.fp_kernel.specs.Definitions.{Within};
 ghost use Rattle.fp_kernel.specs.Derivability.{IsFormula};
 ghost use Rattle.fp_kernel.specs.Start.{signature_of};
-ghost use Rattle.fp_logic.specs.Steps.{plain};
+ghost use Rattle.fp_kernel.specs.Theorems.{plain};
 ghost use Rattle.fp_forms.specs.Schemas.{in_place};
 
-use crate::steps::given;
 use fp_conclude::truth_type;
 use fp_kernel::{Defs, Thm};
 use fp_term::{Name, Term, Ty};
@@ -40,7 +39,7 @@ pub fn instance_of(
 {
     let first = pair(alloc, b"p", left)?;
     let pairs = [first, pair(alloc, b"q", right)?];
-    given(defs.inst(alloc, th, &pairs))
+    defs.inst_known(alloc, th, &pairs)
 }
 
 /// The instance by formulas for `p` and `q`.

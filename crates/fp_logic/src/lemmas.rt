@@ -6,7 +6,7 @@ ghost use Rattle.fp_kernel.specs.Derivability.{IsFormula};
 ghost use Rattle.fp_kernel.specs.Start.{signature_of};
 ghost use Rattle.fp_forms.specs.Lemmas.{statement_of};
 ghost use Rattle.fp_forms.specs.Schemas.{in_place};
-ghost use Rattle.fp_logic.specs.Steps.{plain};
+ghost use Rattle.fp_kernel.specs.Theorems.{plain};
 
 use crate::derivations::derived;
 use crate::instances::instance_of;

@@ -1,22 +1,23 @@
-//! The derived forms of the connectives, each made by the rules alone. The public modules are steps of derivations,
-//! each with a condition under which nothing but memory is wanting; crates that derive further forms stand on them.
+//! The derived forms of the connectives, each made by the rules alone. Those whose names end in `_known` have the shape
+//! of their premises as their condition and are refused for want of memory alone; the others test it first. The public
+//! modules hold further steps of that kind, on which crates that derive more stand.
 #![tactic(auto)]
 
 pub mod choosing;
 mod conclude;
-mod conjunctions;
+pub mod conjunctions;
 mod derivations;
-mod equality;
+pub mod equality;
 pub mod equations;
 pub mod holding;
 pub mod implications;
 pub mod instances;
 pub mod lemmas;
-pub mod steps;
 pub mod truths;
 pub mod unfolding;
 
-pub use conjunctions::{conj, conj1, conj2};
-pub use equality::{ap, ap_arg, sym};
-pub use implications::{disch, mp, undisch};
-pub use truths::{eqt, eqt_elim, truth};
+pub use conjunctions::{conj, conj_known, conj1, conj1_known, conj2, conj2_known};
+pub use equality::{ap, ap_arg, ap_arg_known, ap_known, sym};
+pub use equations::sym_known;
+pub use implications::{disch, disch_known, mp, mp_known, undisch, undisch_known};
+pub use truths::{eqt, eqt_elim, eqt_elim_known, eqt_known, truth};

@@ -3,9 +3,8 @@ ghost use Rattle.std.specs.Prelude.{◌≡◌, [], IfOk};
 ghost use Rattle.fp_conclude.specs.Logic.{truth_type, equal, true_constant};
 ghost use Rattle.fp_conclude.specs.Outcomes.{Answers, gives};
 ghost use Rattle.fp_kernel.specs.Definitions.{Within};
-ghost use Rattle.fp_kernel.specs.Theorems.{stands, from_one};
+ghost use Rattle.fp_kernel.specs.Theorems.{stands, from_one, by_one};
 ghost use Rattle.fp_logic.specs.Derived.{eqt_elim_of};
-ghost use Rattle.fp_logic.specs.Steps.{by_one};
 
 use crate::conclude;
 use crate::holding::convert;
@@ -24,8 +23,8 @@ pub fn truth(alloc: Global, defs: &Defs) -> Result<Thm, RuleFault>
     Ok(lemma_at(alloc, defs, Lemma::Truth, &term, &term)?)
 }
 
-/// `p = T` from `p`, for formulas.
-pub fn true_equation(alloc: Global, defs: &Defs, a: &Thm) -> Result<Thm, AllocError>
+/// `p = T` from `p`.
+pub fn eqt_known(alloc: Global, defs: &Defs, a: &Thm) -> Result<Thm, AllocError>
     requires { Within a.now.defs defs.now }
     ensures { IfOk result (λ th. th ≡ by_one defs.now a.now (equal truth_type a.now.concl true_constant)) }
 {
@@ -38,11 +37,11 @@ pub fn eqt(alloc: Global, defs: &Defs, a: &Thm) -> Result<Thm, RuleFault>
     requires { Within a.now.defs defs.now }
     ensures { Answers result (from_one defs.now a.now a.now.hyps (gives (equal truth_type a.now.concl true_constant))) }
 {
-    Ok(true_equation(alloc, defs, a)?)
+    Ok(eqt_known(alloc, defs, a)?)
 }
 
-/// `p` from `p = T`, for that formula.
-pub fn untrue(alloc: Global, defs: &Defs, a: &Thm, concl: &Term) -> Result<Thm, AllocError>
+/// `p` from `p = T`, for that formula `p`.
+pub fn eqt_elim_known(alloc: Global, defs: &Defs, a: &Thm, concl: &Term) -> Result<Thm, AllocError>
     requires within { Within a.now.defs defs.now }
     requires shape { a.now.concl ≡ equal truth_type concl.now true_constant }
     ensures { IfOk result (λ th. th ≡ by_one defs.now a.now concl.now) }
@@ -58,5 +57,5 @@ pub fn eqt_elim(alloc: Global, defs: &Defs, a: &Thm) -> Result<Thm, RuleFault>
     ensures { Answers result (from_one defs.now a.now a.now.hyps (eqt_elim_of a.now.concl)) }
 {
     let concl = conclude::eqt_elim(alloc, a.concl())?;
-    Ok(untrue(alloc, defs, a, &concl)?)
+    Ok(eqt_elim_known(alloc, defs, a, &concl)?)
 }

@@ -3,12 +3,13 @@ ghost use Rattle.std.specs.Prelude.{◌≡◌, IfOk};
 ghost use Rattle.fp_conclude.specs.Logic.{truth_type, equal, conjunction, implication};
 ghost use Rattle.fp_kernel.specs.Derivability.{IsFormula};
 ghost use Rattle.fp_kernel.specs.Start.{signature_of};
-ghost use Rattle.fp_logic.specs.Steps.{plain, unfolded, unfolded_twice, CanUnfoldTwice};
+ghost use Rattle.fp_kernel.specs.Theorems.{plain};
+ghost use Rattle.fp_logic.specs.Steps.{unfolded, unfolded_twice, CanUnfoldTwice};
 ghost use Rattle.fp_forms.specs.Schemas.{p_variable, q_variable, itself, both_true, implied};
 
 use crate::equations::unfold;
 use crate::lemmas::lemma_at;
-use crate::steps::{definition, own};
+use fp_conclude::LogicalConstant;
 use fp_forms::{Lemma, p_variable, q_variable};
 use fp_kernel::{Defs, Thm};
 use fp_term::Term;
@@ -19,7 +20,7 @@ pub fn own_p(alloc: Global, defs: &Defs) -> Result<Thm, AllocError>
     ensures { IfOk result (λ th. th ≡ plain defs.now (itself p_variable)) }
 {
     let term = p_variable(alloc)?;
-    own(alloc, defs, &term)
+    defs.refl_known(alloc, &term)
 }
 
 /// `q = q`, for the variable.
@@ -27,7 +28,7 @@ pub fn own_q(alloc: Global, defs: &Defs) -> Result<Thm, AllocError>
     ensures { IfOk result (λ th. th ≡ plain defs.now (itself q_variable)) }
 {
     let term = q_variable(alloc)?;
-    own(alloc, defs, &term)
+    defs.refl_known(alloc, &term)
 }
 
 // `f p = (%q. b)`, from `f = (%p q. b)`.
@@ -51,17 +52,19 @@ pub fn unfold_twice(alloc: Global, defs: &Defs, th: &Thm) -> Result<Thm, AllocEr
 
 /// `(p /\ q) = ((%f. f p q) = (%f. f T T))`
 pub fn conjunction_schema(alloc: Global, defs: &Defs) -> Result<Thm, AllocError>
-    ensures { IfOk result (λ th. th ≡ plain defs.now (equal truth_type (conjunction p_variable q_variable) (both_true p_variable q_variable))) }
+    ensures { IfOk result (λ th. th ≡ plain defs.now (equal truth_type (conjunction p_variable q_variable)
+        (both_true p_variable q_variable))) }
 {
-    let meaning = definition(alloc, defs, 2)?;
+    let meaning = defs.connective_known(alloc, LogicalConstant::Conjunction)?;
     unfold_twice(alloc, defs, &meaning)
 }
 
 /// `(p --> q) = ((p /\ q) = p)`
 pub fn implication_schema(alloc: Global, defs: &Defs) -> Result<Thm, AllocError>
-    ensures { IfOk result (λ th. th ≡ plain defs.now (equal truth_type (implication p_variable q_variable) (implied p_variable q_variable))) }
+    ensures { IfOk result (λ th. th ≡ plain defs.now (equal truth_type (implication p_variable q_variable)
+        (implied p_variable q_variable))) }
 {
-    let meaning = definition(alloc, defs, 3)?;
+    let meaning = defs.connective_known(alloc, LogicalConstant::Implication)?;
     unfold_twice(alloc, defs, &meaning)
 }
 
@@ -74,7 +77,8 @@ pub fn conjunction_meaning(
 ) -> Result<Thm, AllocError>
     requires first { IsFormula (signature_of defs.now) left.now }
     requires second { IsFormula (signature_of defs.now) right.now }
-    ensures { IfOk result (λ th. th ≡ plain defs.now (equal truth_type (conjunction left.now right.now) (both_true left.now right.now))) }
+    ensures { IfOk result (λ th. th ≡ plain defs.now (equal truth_type (conjunction left.now right.now)
+        (both_true left.now right.now))) }
 {
     lemma_at(alloc, defs, Lemma::Conjoined, left, right)
 }
@@ -88,7 +92,8 @@ pub fn implication_meaning(
 ) -> Result<Thm, AllocError>
     requires first { IsFormula (signature_of defs.now) left.now }
     requires second { IsFormula (signature_of defs.now) right.now }
-    ensures { IfOk result (λ th. th ≡ plain defs.now (equal truth_type (implication left.now right.now) (implied left.now right.now))) }
+    ensures { IfOk result (λ th. th ≡ plain defs.now (equal truth_type (implication left.now right.now)
+        (implied left.now right.now))) }
 {
     lemma_at(alloc, defs, Lemma::Implied, left, right)
 }

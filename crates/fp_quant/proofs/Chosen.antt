@@ -11,9 +11,8 @@ use Rattle.fp_conclude.specs.Hypotheses.{without, occurs, occurs_in_any}
 use Rattle.fp_conclude.specs.Outcomes.{gives}
 use Rattle.fp_kernel.specs.Definitions.{Def, Within}
 use Rattle.fp_kernel.specs.Start.{signature_of}
-use Rattle.fp_kernel.specs.Theorems.{Theorem, IsTheorem, from_one}
-use Rattle.fp_forms.specs.Shapes.{argument_in, body_in, IsAbstraction}
-use Rattle.fp_logic.specs.Steps.{by_one}
+use Rattle.fp_kernel.specs.Theorems.{Theorem, IsTheorem, from_one, by_one}
+use Rattle.fp_conclude.specs.Shapes.{argument_in, body_in, IsAbstraction}
 use Rattle.fp_forms.specs.Quantified.{existence_parts}
 use Rattle.fp_quant.specs.Existential.{witness_type, witnessed, exists_of}
 use Rattle.fp_quant.specs.Existence.{IsPredicate, IsExistence}

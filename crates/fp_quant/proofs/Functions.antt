@@ -16,10 +16,11 @@ use Rattle.fp_conclude.specs.Logic.{equal}
 use Rattle.fp_conclude.specs.Hypotheses.{IsSet, occurs, occurs_in_any}
 use Rattle.fp_kernel.specs.Definitions.{Def, Within, whole}
 use Rattle.fp_kernel.specs.Start.{signature_of}
-use Rattle.fp_kernel.specs.Theorems.{Theorem, IsTheorem, ArePromises}
-use Rattle.fp_logic.specs.Steps.{plain, by_one, by_both, CanChain, chained}
+use Rattle.fp_kernel.specs.Theorems.{Theorem, IsTheorem, ArePromises, plain, by_one, by_both}
+use Rattle.fp_kernel.specs.Known.{CanTrans, CanLam}
+use Rattle.fp_conclude.specs.Known.{trans_concl, lam_concl}
 use Rattle.fp_logic.proofs.Turning.{lifted_sides, alone_after}
-use Rattle.fp_quant.specs.Meanings.{expansion, eta_at, CanAbstract, abstractions}
+use Rattle.fp_quant.specs.Meanings.{expansion, eta_at}
 
 neither : (a b : Bool) → (a || b) ≡ false → (a ≡ false) × (b ≡ false)
 neither true b e = cc
@@ -47,7 +48,7 @@ module _ (name : List ℕ) (ty : Typ) where
   expansion_of f e = rw (closed_apart 0 f e, closed_variable) refl
 
   abstractions_as : (to : Typ) (f g p : Tm) → occurs name ty f ≡ false → occurs name ty g ≡ false → p ≡ equal to (app f (free name ty)) (app g (free name ty)) →
-      abstractions name ty p ≡ equal (function_type ty to) (expansion ty f) (expansion ty g)
+      lam_concl name ty p ≡ equal (function_type ty to) (expansion ty f) (expansion ty g)
   abstractions_as to f g p h k e = rw (e, expansion_of f h, expansion_of g k) refl
 
   -- a term for the variable
@@ -77,36 +78,36 @@ functions_of defs name from to f g a w d e =
 -- what was abstracted
 pub alike_is : (defs : List Def) (name : List ℕ) (from to : Typ) (f g : Tm) (a : Theorem) → occurs name from f ≡ false → occurs name from g ≡ false →
     a.concl ≡ equal to (app f (free name from)) (app g (free name from)) →
-    by_one defs a (abstractions name from a.concl) ≡ by_one defs a (equal (function_type from to) (expansion from f) (expansion from g))
+    by_one defs a (lam_concl name from a.concl) ≡ by_one defs a (equal (function_type from to) (expansion from f) (expansion from g))
 alike_is defs name from to f g a h k e = ap (by_one defs a) (abstractions_as name from to f g a.concl h k e)
 
 pub abstract_asks : (defs : List Def) (name : List ℕ) (from to : Typ) (f g : Tm) (a : Theorem) → Within a.defs defs → IsType (signature_of defs) from → occurs_in_any name from a.hyps ≡ false →
-    a.concl ≡ equal to (app f (free name from)) (app g (free name from)) → CanAbstract defs name from a
-abstract_asks defs name from to f g a w h k e = (w, h, k, rw e refl)
+    a.concl ≡ equal to (app f (free name from)) (app g (free name from)) → CanLam defs name from a
+abstract_asks defs name from to f g a w h k e = (w, h, rw e refl, k)
 
 -- the one expansion reduced, and then the other
 left_as : (defs : List Def) (from to : Typ) (f g p : Tm) (a : Theorem) → Within a.defs defs → p ≡ equal (function_type from to) (expansion from f) (expansion from g) →
-    CanChain defs (plain defs (equal (function_type from to) f (expansion from f))) (record a { concl = p })
+    CanTrans defs (plain defs (equal (function_type from to) f (expansion from f))) (record a { concl = p })
 left_as defs from to f g p a w e = rw e (whole, w, refl, refl)
 
 pub left_asks : (defs : List Def) (from to : Typ) (f g : Tm) (a : Theorem) → Within a.defs defs → a.concl ≡ equal (function_type from to) (expansion from f) (expansion from g) →
-    CanChain defs (plain defs (equal (function_type from to) f (expansion from f))) a
+    CanTrans defs (plain defs (equal (function_type from to) f (expansion from f))) a
 left_asks defs from to f g a w e = left_as defs from to f g a.concl a w e
 
 pub left_gives : (defs : List Def) (from to : Typ) (f g : Tm) (a : Theorem) → a.concl ≡ equal (function_type from to) (expansion from f) (expansion from g) → IsSet a.hyps → ArePromises a.promises →
-    by_both defs (plain defs (equal (function_type from to) f (expansion from f))) a (chained (equal (function_type from to) f (expansion from f)) a.concl)
+    by_both defs (plain defs (equal (function_type from to) f (expansion from f))) a (trans_concl (equal (function_type from to) f (expansion from f)) a.concl)
     ≡ by_one defs a (equal (function_type from to) f (expansion from g))
 left_gives defs from to f g a e h k =
-    alone_after defs (equal (function_type from to) f (expansion from f)) (chained (equal (function_type from to) f (expansion from f)) a.concl) a h k
-    ∙ ap (λ (x : Tm). by_one defs a (chained (equal (function_type from to) f (expansion from f)) x)) e
+    alone_after defs (equal (function_type from to) f (expansion from f)) (trans_concl (equal (function_type from to) f (expansion from f)) a.concl) a h k
+    ∙ ap (λ (x : Tm). by_one defs a (trans_concl (equal (function_type from to) f (expansion from f)) x)) e
 
 right_as : (defs : List Def) (from to : Typ) (f g p : Tm) (a : Theorem) → Within a.defs defs → p ≡ equal (function_type from to) f (expansion from g) →
-    CanChain defs (record a { concl = p }) (plain defs (eta_at from to g))
+    CanTrans defs (record a { concl = p }) (plain defs (eta_at from to g))
 right_as defs from to f g p a w e = rw e (w, whole, refl, refl)
 
-pub right_asks : (defs : List Def) (from to : Typ) (f g : Tm) (a : Theorem) → Within a.defs defs → a.concl ≡ equal (function_type from to) f (expansion from g) → CanChain defs a (plain defs (eta_at from to g))
+pub right_asks : (defs : List Def) (from to : Typ) (f g : Tm) (a : Theorem) → Within a.defs defs → a.concl ≡ equal (function_type from to) f (expansion from g) → CanTrans defs a (plain defs (eta_at from to g))
 right_asks defs from to f g a w e = right_as defs from to f g a.concl a w e
 
 pub right_gives : (defs : List Def) (from to : Typ) (f g : Tm) (a : Theorem) → a.concl ≡ equal (function_type from to) f (expansion from g) →
-    by_both defs a (plain defs (eta_at from to g)) (chained a.concl (eta_at from to g)) ≡ by_one defs a (equal (function_type from to) f g)
-right_gives defs from to f g a e = ap (λ (x : Tm). by_one defs a (chained x (eta_at from to g))) e
+    by_both defs a (plain defs (eta_at from to g)) (trans_concl a.concl (eta_at from to g)) ≡ by_one defs a (equal (function_type from to) f g)
+right_gives defs from to f g a e = ap (λ (x : Tm). by_one defs a (trans_concl x (eta_at from to g))) e

@@ -16,7 +16,7 @@ use Rattle.fp_conclude.proofs.Checked.{well_typed}
 use Rattle.fp_conclude.proofs.Outcomes.{unless_gives, followed_gives}
 use Rattle.fp_kernel.specs.Definitions.{Def, Within}
 use Rattle.fp_kernel.specs.Theorems.{Theorem, IsTheorem}
-use Rattle.fp_forms.specs.Shapes.{argument_in, body_in, IsAbstraction}
+use Rattle.fp_conclude.specs.Shapes.{argument_in, body_in, IsAbstraction}
 use Rattle.fp_forms.specs.Quantified.{existence_parts}
 use Rattle.fp_quant.specs.Existential.{witness_type}
 use Rattle.fp_forms.specs.Existence.{some_such}

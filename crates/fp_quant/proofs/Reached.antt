@@ -12,9 +12,10 @@ use Rattle.fp_conclude.specs.Logic.{truth_type, binary_type, equal, connective, 
 use Rattle.fp_conclude.specs.Hypotheses.{occurs}
 use Rattle.fp_kernel.specs.Definitions.{Def, Within, whole}
 use Rattle.fp_kernel.specs.Start.{signature_of}
-use Rattle.fp_kernel.specs.Theorems.{Theorem}
-use Rattle.fp_forms.specs.Shapes.{left, right, IsAbstraction}
-use Rattle.fp_logic.specs.Steps.{plain, by_both, CanCombine, combined}
+use Rattle.fp_kernel.specs.Theorems.{Theorem, plain, by_both}
+use Rattle.fp_conclude.specs.Shapes.{left, right, IsAbstraction}
+use Rattle.fp_kernel.specs.Known.{CanMkComb}
+use Rattle.fp_conclude.specs.Known.{mk_comb_concl}
 use Rattle.fp_quant.specs.Existence.{IsPredicate}
 
 pub over : (old defs : List Def) → old ≡ defs → Within old defs
@@ -38,25 +39,25 @@ abbrev Equation : List Def → Theorem → Type 0
 Equation defs a = a ≡ plain defs (equal truth_type (left a.concl) (right a.concl))
 
 abbrev Once : List Def → Theorem → Theorem
-Once defs a = by_both defs (plain defs own_imp) a (combined own_imp a.concl)
+Once defs a = by_both defs (plain defs own_imp) a (mk_comb_concl own_imp a.concl)
 
 abbrev Itself : List Def → Tm → Theorem
 Itself defs t = plain defs (equal truth_type t t)
 
-once_at : (defs : List Def) (l r : Tm) → CanCombine defs (plain defs own_imp) (plain defs (equal truth_type l r))
+once_at : (defs : List Def) (l r : Tm) → CanMkComb defs (plain defs own_imp) (plain defs (equal truth_type l r))
 once_at defs l r = (whole, whole, refl, refl)
 
-pub once_asks : (defs : List Def) (a : Theorem) → Equation defs a → CanCombine defs (plain defs own_imp) a
-once_asks defs a e = subst (CanCombine defs (plain defs own_imp)) (sym e) (once_at defs (left a.concl) (right a.concl))
+pub once_asks : (defs : List Def) (a : Theorem) → Equation defs a → CanMkComb defs (plain defs own_imp) a
+once_asks defs a e = subst (CanMkComb defs (plain defs own_imp)) (sym e) (once_at defs (left a.concl) (right a.concl))
 
-twice_at : (defs : List Def) (l r t : Tm) → CanCombine defs (Once defs (plain defs (equal truth_type l r))) (Itself defs t)
+twice_at : (defs : List Def) (l r t : Tm) → CanMkComb defs (Once defs (plain defs (equal truth_type l r))) (Itself defs t)
 twice_at defs l r t = (whole, whole, refl, refl)
 
-pub twice_asks : (defs : List Def) (a : Theorem) (t : Tm) → Equation defs a → CanCombine defs (Once defs a) (Itself defs t)
-twice_asks defs a t e = subst (λ (x : Theorem). CanCombine defs (Once defs x) (Itself defs t)) (sym e) (twice_at defs (left a.concl) (right a.concl) t)
+pub twice_asks : (defs : List Def) (a : Theorem) (t : Tm) → Equation defs a → CanMkComb defs (Once defs a) (Itself defs t)
+twice_asks defs a t e = subst (λ (x : Theorem). CanMkComb defs (Once defs x) (Itself defs t)) (sym e) (twice_at defs (left a.concl) (right a.concl) t)
 
 abbrev Twice : List Def → Theorem → Tm → Theorem
-Twice defs a t = by_both defs (Once defs a) (Itself defs t) (combined (Once defs a).concl (equal truth_type t t))
+Twice defs a t = by_both defs (Once defs a) (Itself defs t) (mk_comb_concl (Once defs a).concl (equal truth_type t t))
 
 pub twice_gives : (defs : List Def) (a : Theorem) (t : Tm) → Equation defs a → Twice defs a t ≡ plain defs (equal truth_type (implication (left a.concl) t) (implication (right a.concl) t))
 twice_gives defs a t e = ap (λ (x : Theorem). Twice defs x t) e

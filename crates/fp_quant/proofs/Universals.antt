@@ -1,33 +1,17 @@
 -- The definition of `all` at a type, and the steps from it.
-use Rattle.std.proofs.Common.{◌≡◌, ℕ, false, List, refl, sym, ap, subst}
+use Rattle.std.proofs.Common.{◌≡◌, ℕ, List, refl, sym, ap, subst}
 use Rattle.fp_term.specs.Types.{Typ}
 use Rattle.fp_term.specs.Terms.{Tm}
-use Rattle.fp_term.specs.Signatures.{IsType, IsWellTyped}
+use Rattle.fp_term.specs.Signatures.{IsWellTyped}
 use Rattle.fp_conclude.specs.Logic.{predicate_type, equal}
-use Rattle.fp_conclude.specs.Hypotheses.{occurs_in_any}
-use Rattle.fp_conclude.specs.Outcomes.{gives}
-use Rattle.fp_conclude.specs.Rules.{lam_of}
-use Rattle.fp_conclude.proofs.Gives.{lam_gives}
 use Rattle.fp_kernel.specs.Definitions.{Def, Within, whole}
 use Rattle.fp_kernel.specs.Start.{signature_of}
 use Rattle.fp_kernel.specs.Derivability.{IsFormula}
-use Rattle.fp_kernel.specs.Theorems.{Theorem, IsTheorem, from_one}
-use Rattle.fp_forms.specs.Shapes.{side_type, left, right, IsEquation}
-use Rattle.fp_logic.specs.Steps.{plain, by_one, CanUnfold}
+use Rattle.fp_kernel.specs.Theorems.{Theorem, IsTheorem, plain, by_one}
+use Rattle.fp_conclude.specs.Shapes.{left}
+use Rattle.fp_logic.specs.Steps.{CanUnfold}
 use Rattle.fp_logic.proofs.Turning.{lifted, lifted_sides}
-use Rattle.fp_quant.specs.Meanings.{always, universal_at, CanAbstract, abstractions}
-
--- abstracting an equation
-lam_as : (defs : List Def) (name : List ℕ) (ty : Typ) (hyps : List Tm) (p : Tm) → IsEquation p → IsType (signature_of defs) ty → occurs_in_any name ty hyps ≡ false →
-    lam_of (signature_of defs) name ty hyps p ≡ gives (abstractions name ty p)
-lam_as defs name ty hyps p e h k =
-    subst (λ (x : Tm). lam_of (signature_of defs) name ty hyps x ≡ gives (abstractions name ty p)) (sym e) (lam_gives (signature_of defs) name ty (side_type p) hyps (left p) (right p) h k)
-
-abbrev pub Abstracted : List Def → List ℕ → Typ → Theorem → Type 0
-Abstracted defs name ty a = from_one defs a a.hyps (lam_of (signature_of defs) name ty a.hyps a.concl) ≡ gives (by_one defs a (abstractions name ty a.concl))
-
-pub abstracted_gives : (defs : List Def) (name : List ℕ) (ty : Typ) (a : Theorem) → CanAbstract defs name ty a → Abstracted defs name ty a
-abstracted_gives defs name ty a h = ap (λ o. from_one defs a a.hyps o) (lam_as defs name ty a.hyps a.concl h.3 h.1 h.2)
+use Rattle.fp_quant.specs.Meanings.{always, universal_at}
 
 -- `all` at a type
 pub universal_asks : (defs : List Def) (s : Typ) (p : Tm) → CanUnfold defs (plain defs (universal_at s)) (plain defs (equal (predicate_type s) p p))

@@ -1,15 +1,9 @@
 -- What quantified formulas say, and what rules give on premises of a known form.
-use Rattle.std.specs.Prelude.{◌≡◌, ℕ, false, List, [], ◌∷◌, codes}
+use Rattle.std.specs.Prelude.{◌≡◌, ℕ, List, [], ◌∷◌, codes}
 use Rattle.fp_term.specs.Types.{Typ}
-use Rattle.fp_term.specs.Terms.{Tm, bound, app, abs, closed}
+use Rattle.fp_term.specs.Terms.{Tm, bound, app, abs}
 use Rattle.fp_term.specs.Typing.{function_type}
-use Rattle.fp_term.specs.Signatures.{IsType}
 use Rattle.fp_conclude.specs.Logic.{predicate_type, quantifier_type, equal, true_constant, quantifier}
-use Rattle.fp_conclude.specs.Hypotheses.{occurs_in_any}
-use Rattle.fp_kernel.specs.Definitions.{Def, Within}
-use Rattle.fp_kernel.specs.Start.{signature_of}
-use Rattle.fp_kernel.specs.Theorems.{Theorem}
-use Rattle.fp_forms.specs.Shapes.{side_type, left, right, IsEquation}
 
 -- types for the type variables `'a` and `'b`
 abbrev pub for_alpha : Typ → List (List ℕ × Typ)
@@ -33,11 +27,3 @@ expansion from f = abs from (app f (bound 0))
 -- `(%x. f x) = f`, for a function from the one type to the other
 abbrev pub eta_at : Typ → Typ → Tm → Tm
 eta_at from to f = equal (function_type from to) (expansion from f) f
-
--- an equation, and a variable that is free in no hypothesis
-abbrev pub CanAbstract : List Def → List ℕ → Typ → Theorem → Type 0
-CanAbstract defs name ty a = Within a.defs defs × IsType (signature_of defs) ty × (occurs_in_any name ty a.hyps ≡ false) × IsEquation a.concl
-
--- `(%x. s) = (%x. t)` from `s = t`
-abbrev pub abstractions : List ℕ → Typ → Tm → Tm
-abstractions name ty p = equal (function_type ty (side_type p)) (abs ty (closed 0 name ty (left p))) (abs ty (closed 0 name ty (right p)))

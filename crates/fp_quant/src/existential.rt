@@ -1,5 +1,5 @@
 //! Forms of `?`. Primitive steps: `exists` 18, `choose` 65, `select` 24.
-ghost use Rattle.std.specs.Prelude.{◌≡◌, ◌∷◌, Some, None, IfOk, MatchOption};
+ghost use Rattle.std.specs.Prelude.{◌≡◌, ◌∷◌, Some, None, IfOk};
 ghost use Rattle.std.specs.Option.{option_copied};
 ghost use Rattle.fp_term.specs.Terms.{free, opened};
 ghost use Rattle.fp_term.specs.Signatures.{first_of, unknown_in};
@@ -14,10 +14,9 @@ ghost use Rattle.fp_quant.specs.Existential.{witness_type, witnessed, exists_of,
 
 use crate::fault::{free_in_hyps, unknown_name};
 use crate::steps::variable;
-use crate::witness::{chosen, eliminated, witnessed};
-use fp_conclude::{RuleFault, differ, occurs, occurs_in_any, without};
+use crate::witness::{choose_known, exists_known, select_known};
+use fp_conclude::{RuleFault, argument_in, differ, occurs, occurs_in_any, without};
 use fp_forms::existence_parts;
-use fp_forms::shapes::argument_in;
 use fp_kernel::{Defs, Thm};
 use fp_term::{Name, Place, Signature, Term, Ty, open_with, same, type_of};
 use std::alloc::{AllocError, Global};
@@ -35,7 +34,8 @@ fn unknown_in_either<'a>(
     first: &'a Term,
     second: &'a Term,
 ) -> Result<Option<&'a Name>, AllocError>
-    ensures { IfOk result (λ o. option_copied o ≡ first_of (unknown_in signature.now first.now) (unknown_in signature.now second.now)) }
+    ensures { IfOk result (λ o. option_copied o ≡ first_of (unknown_in signature.now first.now)
+        (unknown_in signature.now second.now)) }
 {
     match signature.unknown_name(alloc, first)? {
         Some(name) => Ok(Some(name)),
@@ -74,7 +74,8 @@ fn witnessed_by(
     requires within { Within a.now.defs defs.now }
     requires typed { witness_type (signature_of defs.now) term.now witness.now ≡ gives of_witness.now }
     requires parts { existence_parts term.now ≡ Some (ty.now, body.now) }
-    ensures { Answers result (from_one defs.now a.now a.now.hyps (witnessed term.now witness.now of_witness.now a.now.concl (ty.now, body.now))) }
+    ensures { Answers result (from_one defs.now a.now a.now.hyps (witnessed term.now witness.now of_witness.now
+        a.now.concl (ty.now, body.now))) }
 {
     let held = open_with(alloc, body, witness)?;
     if !same(&held, a.concl()) {
@@ -83,7 +84,7 @@ fn witnessed_by(
     if !of_witness.equals(ty) {
         return Err(RuleFault::IllTyped(Place::here(alloc)));
     }
-    Ok(witnessed(alloc, defs, a, ty, body, witness)?)
+    Ok(exists_known(alloc, defs, a, ty, body, witness)?)
 }
 
 /// `t`, which is `?v. p`, from `p` with the witness for `v`.
@@ -96,7 +97,8 @@ pub fn exists(
     a: &Thm,
 ) -> Result<Thm, RuleFault>
     requires { Within a.now.defs defs.now }
-    ensures { Answers result (from_one defs.now a.now a.now.hyps (exists_of (signature_of defs.now) term.now witness.now a.now.concl)) }
+    ensures { Answers result (from_one defs.now a.now a.now.hyps (exists_of (signature_of defs.now) term.now
+        witness.now a.now.concl)) }
 {
     let of_witness = witness_type(alloc, defs.signature(), term, witness)?;
     let parts = existence_parts(alloc, term)?;
@@ -123,7 +125,8 @@ fn is_free(
     b: &Thm,
     body: &Term,
 ) -> Result<bool, AllocError>
-    ensures { IfOk result (λ yes. yes ≡ occurs_in_any name.now ty.now (b.now.concl ∷ a.now.concl ∷ without (opened 0 (free name.now ty.now) body.now) b.now.hyps)) }
+    ensures { IfOk result (λ yes. yes ≡ occurs_in_any name.now ty.now (b.now.concl ∷ a.now.concl ∷ without
+        (opened 0 (free name.now ty.now) body.now) b.now.hyps)) }
 {
     let held = held_by(alloc, name, ty, body)?;
     let rest = without(alloc, &held, b.hyps())?;
@@ -153,7 +156,7 @@ fn chosen_by(
     if !ty.equals(bound) {
         return Err(RuleFault::IllTyped(Place::here(alloc)));
     }
-    Ok(eliminated(alloc, defs, name, ty, argument_in(a.concl()), a, b)?)
+    Ok(choose_known(alloc, defs, name, ty, argument_in(a.concl()), a, b)?)
 }
 
 /// `q` from `?v. p` and from `q`, without `p` with the variable for `v` among the hypotheses of the second theorem. The
@@ -189,5 +192,5 @@ pub fn select(alloc: Global, defs: &Defs, a: &Thm) -> Result<Thm, RuleFault>
     let Some((ty, _)) = parts else {
         return Err(RuleFault::Shape);
     };
-    Ok(chosen(alloc, defs, a, ty, argument_in(a.concl()))?)
+    Ok(select_known(alloc, defs, a, ty, argument_in(a.concl()))?)
 }

@@ -9,19 +9,16 @@ ghost use Rattle.fp_conclude.specs.Hypotheses.{occurs, occurs_in_any};
 ghost use Rattle.fp_conclude.specs.Outcomes.{Answers};
 ghost use Rattle.fp_kernel.specs.Definitions.{Within};
 ghost use Rattle.fp_kernel.specs.Start.{signature_of};
-ghost use Rattle.fp_kernel.specs.Theorems.{from_one};
-ghost use Rattle.fp_logic.specs.Steps.{plain, by_one};
+ghost use Rattle.fp_kernel.specs.Theorems.{from_one, plain, by_one};
 ghost use Rattle.fp_quant.specs.Extensional.{type_of, alike_at, left_expanded, both_expanded, right_expanded, alike, is_free};
 ghost use Rattle.fp_quant.specs.Meanings.{eta_at};
 ghost use Rattle.fp_quant.specs.Universal.{applied_to_variable, same_functions, same_values, ext_of};
 
 use crate::fault::{free_in_hyps, unknown_name};
-use crate::steps::{abstracted, extension, replaced, retyped_at_both, variable};
-use fp_conclude::{Equation, RuleFault, occurs, occurs_in_any, sides};
-use fp_forms::shapes::left;
+use crate::steps::{retyped_at_both, variable};
+use fp_conclude::{Axiom, Equation, RuleFault, left, occurs, occurs_in_any, sides};
 use fp_kernel::{Defs, Thm};
-use fp_logic::equations::swap;
-use fp_logic::steps::chain;
+use fp_logic::equations::sym_known;
 use fp_term::{Name, Node, Term, Ty, function_of, same};
 use std::alloc::{AllocError, Global};
 
@@ -29,9 +26,10 @@ use std::alloc::{AllocError, Global};
 fn eta_schema(alloc: Global, defs: &Defs, from: &Ty, to: &Ty) -> Result<Thm, AllocError>
     requires first { IsType (signature_of defs.now) from.now }
     requires second { IsType (signature_of defs.now) to.now }
-    ensures { IfOk result (λ th. th ≡ plain defs.now (eta_at from.now to.now (free (codes "t") (function_type from.now to.now)))) }
+    ensures { IfOk result (λ th. th ≡ plain defs.now (eta_at from.now to.now (free (codes "t")
+        (function_type from.now to.now)))) }
 {
-    let axiom = extension(alloc, defs)?;
+    let axiom = defs.axiom_known(alloc, Axiom::Eta)?;
     retyped_at_both(alloc, defs, &axiom, from, to)
 }
 
@@ -58,16 +56,16 @@ fn eta(alloc: Global, defs: &Defs, from: &Ty, to: &Ty, function: &Term) -> Resul
 {
     let schema = eta_schema(alloc, defs, from, to)?;
     let pairs = [for_t(alloc, from, to, function)?];
-    replaced(alloc, defs, &schema, &pairs)
+    defs.inst_known(alloc, &schema, &pairs)
 }
 
-// Two functions, from which type and to which.
+/// Two functions, from which type and to which.
 #[derive(Drop)]
-struct Functions<'a> {
-    from: &'a Ty,
-    to: &'a Ty,
-    left: &'a Term,
-    right: &'a Term,
+pub struct Functions<'a> {
+    pub from: &'a Ty,
+    pub to: &'a Ty,
+    pub left: &'a Term,
+    pub right: &'a Term,
 }
 
 // `f = (%x. f x)`, for the first function.
@@ -77,7 +75,7 @@ fn expanded(alloc: Global, defs: &Defs, functions: &Functions<'_>) -> Result<Thm
 {
     let ty = functions_type(alloc, functions.from, functions.to)?;
     let eta = eta(alloc, defs, functions.from, functions.to, functions.left)?;
-    swap(alloc, defs, &eta, &ty, left(eta.concl()))
+    sym_known(alloc, defs, &eta, &ty, left(eta.concl()))
 }
 
 // `f = (%x. g x)` from `(%x. f x) = (%x. g x)`.
@@ -95,7 +93,7 @@ fn left_reduced(
     let _hyps = th.hyps();
     let _promises = th.promises();
     let expanded = expanded(alloc, defs, functions)?;
-    chain(alloc, defs, &expanded, th)
+    defs.trans_known(alloc, &expanded, th)
 }
 
 // `f = g` from `f = (%x. g x)`.
@@ -111,11 +109,11 @@ fn right_reduced(
     ensures { IfOk result (λ r. r ≡ by_one defs.now th.now (alike functions.now)) }
 {
     let eta = eta(alloc, defs, functions.from, functions.to, functions.right)?;
-    chain(alloc, defs, th, &eta)
+    defs.trans_known(alloc, th, &eta)
 }
 
-// `f = g` from `f x = g x`.
-fn extended(
+/// `f = g` from `f x = g x`, for a variable that is free in neither and in no hypothesis.
+pub fn ext_known(
     alloc: Global,
     defs: &Defs,
     name: &Name,
@@ -131,7 +129,7 @@ fn extended(
     ensures { IfOk result (λ th. th ≡ by_one defs.now a.now (alike functions.now)) }
 {
     let _concl = a.concl();
-    let alike = abstracted(alloc, defs, name, functions.from, a)?;
+    let alike = defs.lam_known(alloc, name, functions.from, a)?;
     let first = left_reduced(alloc, defs, functions, &alike)?;
     right_reduced(alloc, defs, functions, &first)
 }
@@ -176,12 +174,13 @@ fn same_functions(
     requires within { Within a.now.defs defs.now }
     requires known { IsType (signature_of defs.now) functions.now.from.now }
     requires shape { a.now.concl ≡ alike_at name.now functions.now }
-    ensures { Answers result (from_one defs.now a.now a.now.hyps (same_functions name.now functions.now.from.now a.now.hyps functions.now.to.now functions.now.left.now functions.now.right.now)) }
+    ensures { Answers result (from_one defs.now a.now a.now.hyps (same_functions name.now functions.now.from.now
+        a.now.hyps functions.now.to.now functions.now.left.now functions.now.right.now)) }
 {
     if is_free(name, functions, a.hyps()) {
         return Err(free_in_hyps(name));
     }
-    Ok(extended(alloc, defs, name, functions, a)?)
+    Ok(ext_known(alloc, defs, name, functions, a)?)
 }
 
 // `f = g` from `f x = g x`, by the parts of the equation.
@@ -196,7 +195,8 @@ fn same_values(
     requires within { Within a.now.defs defs.now }
     requires known { IsType (signature_of defs.now) ty.now }
     requires shape { a.now.concl ≡ equal sides.now.ty.now sides.now.left.now sides.now.right.now }
-    ensures { Answers result (from_one defs.now a.now a.now.hyps (same_values name.now ty.now a.now.hyps (sides.now.ty.now, sides.now.left.now, sides.now.right.now))) }
+    ensures { Answers result (from_one defs.now a.now a.now.hyps (same_values name.now ty.now a.now.hyps
+        (sides.now.ty.now, sides.now.left.now, sides.now.right.now))) }
 {
     let Some(left) = applied_to_variable(alloc, name, ty, sides.left)? else {
         return Err(RuleFault::Shape);
@@ -216,7 +216,8 @@ fn same_values(
 /// `f = g` from `f x = g x`.
 pub fn ext(alloc: Global, defs: &Defs, name: &Name, ty: &Ty, a: &Thm) -> Result<Thm, RuleFault>
     requires { Within a.now.defs defs.now }
-    ensures { Answers result (from_one defs.now a.now a.now.hyps (ext_of (signature_of defs.now) name.now ty.now a.now.hyps a.now.concl)) }
+    ensures { Answers result (from_one defs.now a.now a.now.hyps (ext_of (signature_of defs.now) name.now ty.now
+        a.now.hyps a.now.concl)) }
 {
     if let Some(unknown) = defs.signature().unknown_in_type(ty) {
         return Err(unknown_name(unknown));

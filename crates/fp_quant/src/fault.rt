@@ -1,3 +1,4 @@
+//! The faults of the forms of quantifiers.
 ghost use Rattle.fp_term.specs.Types.{Typ};
 ghost use Rattle.fp_term.specs.Terms.{Tm};
 ghost use Rattle.fp_conclude.specs.Outcomes.{FaultIs, refused, unknown_name, free_in_hyps};

@@ -7,12 +7,11 @@ ghost use Rattle.fp_conclude.specs.Checks.{typed_over};
 ghost use Rattle.fp_conclude.specs.Outcomes.{Answers, gives};
 ghost use Rattle.fp_kernel.specs.Definitions.{Within};
 ghost use Rattle.fp_kernel.specs.Start.{signature_of};
-ghost use Rattle.fp_kernel.specs.Theorems.{from_one};
-ghost use Rattle.fp_logic.specs.Steps.{by_one};
+ghost use Rattle.fp_kernel.specs.Theorems.{from_one, by_one};
 ghost use Rattle.fp_quant.specs.Universal.{value_at, gen_all_of, specialized_at, spec_of};
 
 use crate::fault::{free_in_hyps, unknown_name};
-use crate::universal::{applied_to, generalized, specialized};
+use crate::universal::{applied_to, gen_all_known, specialized};
 use fp_conclude::{RuleFault, occurs_in_any, typed_over};
 use fp_forms::quantified;
 use fp_kernel::{Defs, Thm};
@@ -22,7 +21,8 @@ use std::alloc::{AllocError, Global};
 /// `!x. p` from `p`.
 pub fn gen_all(alloc: Global, defs: &Defs, name: &Name, ty: &Ty, a: &Thm) -> Result<Thm, RuleFault>
     requires { Within a.now.defs defs.now }
-    ensures { Answers result (from_one defs.now a.now a.now.hyps (gen_all_of (signature_of defs.now) name.now ty.now a.now.hyps a.now.concl)) }
+    ensures { Answers result (from_one defs.now a.now a.now.hyps (gen_all_of (signature_of defs.now) name.now ty.now
+        a.now.hyps a.now.concl)) }
 {
     if let Some(unknown) = defs.signature().unknown_in_type(ty) {
         return Err(unknown_name(unknown));
@@ -30,11 +30,11 @@ pub fn gen_all(alloc: Global, defs: &Defs, name: &Name, ty: &Ty, a: &Thm) -> Res
     if occurs_in_any(name, ty, a.hyps()) {
         return Err(free_in_hyps(name));
     }
-    Ok(generalized(alloc, defs, name, ty, a)?)
+    Ok(gen_all_known(alloc, defs, name, ty, a)?)
 }
 
-// `P` at `t`, from `all P`.
-fn instance(
+/// `p` with `t` in place of `v` where `P` is `%v. p`, and else `P t`, from `all P`.
+pub fn spec_known(
     alloc: Global,
     defs: &Defs,
     a: &Thm,
@@ -67,19 +67,21 @@ fn specialized_at(
     requires within { Within a.now.defs defs.now }
     requires shape { a.now.concl ≡ app (quantifier (codes "all") ty.now) predicate.now }
     requires typed { typed_over (signature_of defs.now) term.now ≡ gives of_term.now }
-    ensures { Answers result (from_one defs.now a.now a.now.hyps (specialized_at term.now of_term.now (ty.now, predicate.now))) }
+    ensures { Answers result (from_one defs.now a.now a.now.hyps (specialized_at term.now of_term.now
+        (ty.now, predicate.now))) }
 {
     if !of_term.equals(ty) {
         return Err(RuleFault::IllTyped(Place::here(alloc)));
     }
-    Ok(instance(alloc, defs, a, ty, predicate, term)?)
+    Ok(spec_known(alloc, defs, a, ty, predicate, term)?)
 }
 
 /// `p` with `t` in place of `v` from `!v. p`, and `P t` from `all P`.
 #[tactic(auto, unfolding(fp_term::specs::Names::is_name))]
 pub fn spec(alloc: Global, defs: &Defs, a: &Thm, term: &Term) -> Result<Thm, RuleFault>
     requires { Within a.now.defs defs.now }
-    ensures { Answers result (from_one defs.now a.now a.now.hyps (spec_of (signature_of defs.now) a.now.concl term.now)) }
+    ensures { Answers result (from_one defs.now a.now a.now.hyps (spec_of (signature_of defs.now) a.now.concl
+        term.now)) }
 {
     let of_term = typed_over(alloc, defs.signature(), term)?;
     let Some((ty, predicate)) = quantified(alloc, b"all", a.concl())? else {

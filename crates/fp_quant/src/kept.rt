@@ -1,6 +1,6 @@
 //! What is derived of `?`, for variables, each once and kept beside the definitions.
 ghost use Rattle.std.specs.Prelude.{◌≡◌, [], IfOk};
-ghost use Rattle.fp_logic.specs.Steps.{plain};
+ghost use Rattle.fp_kernel.specs.Theorems.{plain};
 ghost use Rattle.fp_forms.specs.Existence.{statement_of};
 
 use crate::existence::{choice, elimination, introduction};

@@ -7,13 +7,13 @@ ghost use Rattle.fp_conclude.specs.Logic.{truth_type, predicate_type, implicatio
 ghost use Rattle.fp_conclude.specs.Checks.{AreTerms};
 ghost use Rattle.fp_kernel.specs.Derivability.{IsFormula};
 ghost use Rattle.fp_kernel.specs.Start.{signature_of};
-ghost use Rattle.fp_logic.specs.Steps.{plain};
+ghost use Rattle.fp_kernel.specs.Theorems.{plain};
 ghost use Rattle.fp_forms.specs.Existence.{some_such, reaches, each_chosen, statement_of};
 ghost use Rattle.fp_quant.specs.Existence.{placed, IsPredicate};
 ghost use Rattle.fp_quant.specs.Meanings.{for_alpha};
 
 use crate::kept::recalled;
-use crate::steps::{replaced, retyped_at};
+use crate::steps::retyped_at;
 use fp_conclude::{predicate_over, truth_type};
 use fp_forms::existence::ExistenceSchema;
 use fp_kernel::{Defs, Thm};
@@ -66,10 +66,11 @@ fn with_terms(
 ) -> Result<Thm, AllocError>
     requires whole { th.now ≡ plain defs.now th.now.concl }
     requires typed { AreTerms (signature_of defs.now) (placed ty.now predicate.now other.0 other.1 other.2) }
-    ensures { IfOk result (λ i. i ≡ plain defs.now (replaced (placed ty.now predicate.now other.0 other.1 other.2) th.now.concl)) }
+    ensures { IfOk result (λ i. i ≡ plain defs.now (replaced (placed ty.now predicate.now other.0 other.1 other.2)
+        th.now.concl)) }
 {
     let pairs = [for_predicate(alloc, ty, predicate)?, other];
-    replaced(alloc, defs, th, &pairs)
+    defs.inst_known(alloc, th, &pairs)
 }
 
 /// `P t --> ex P`
@@ -83,7 +84,8 @@ pub(crate) fn introduction_at(
 ) -> Result<Thm, AllocError>
     requires predicate { IsPredicate defs.now ty.now predicate.now }
     requires typed { IsWellTyped (signature_of defs.now) term.now ty.now }
-    ensures { IfOk result (λ th. th ≡ plain defs.now (implication (app predicate.now term.now) (some_such ty.now predicate.now))) }
+    ensures { IfOk result (λ th. th ≡ plain defs.now (implication (app predicate.now term.now)
+        (some_such ty.now predicate.now))) }
 {
     let typed = typed(alloc, defs, ExistenceSchema::Introduction, ty)?;
     let other = pair(alloc, b"x", ty, term)?;
@@ -100,7 +102,8 @@ pub(crate) fn elimination_at(
 ) -> Result<Thm, AllocError>
     requires predicate { IsPredicate defs.now ty.now predicate.now }
     requires formula { IsFormula (signature_of defs.now) formula.now }
-    ensures { IfOk result (λ th. th ≡ plain defs.now (implication (some_such ty.now predicate.now) (reaches ty.now predicate.now formula.now))) }
+    ensures { IfOk result (λ th. th ≡ plain defs.now (implication (some_such ty.now predicate.now)
+        (reaches ty.now predicate.now formula.now))) }
 {
     let typed = typed(alloc, defs, ExistenceSchema::Elimination, ty)?;
     let other = for_formula(alloc, formula)?;

@@ -1,21 +1,18 @@
 //! Rules on premises of a known form: but for want of memory they give what the form says.
 ghost use Rattle.std.specs.Prelude.{◌≡◌, codes, IfOk};
-ghost use Rattle.fp_term.specs.Terms.{free, replaced, retyped_term};
+ghost use Rattle.fp_term.specs.Terms.{free, retyped_term};
 ghost use Rattle.fp_term.specs.Signatures.{IsType};
-ghost use Rattle.fp_conclude.specs.Checks.{AreTerms, AreTypesOf};
-ghost use Rattle.fp_conclude.specs.Axioms.{eta};
-ghost use Rattle.fp_logic.specs.Steps.{plain, by_one};
+ghost use Rattle.fp_kernel.specs.Theorems.{plain};
 ghost use Rattle.fp_kernel.specs.Definitions.{Within};
 ghost use Rattle.fp_kernel.specs.Start.{signature_of};
-ghost use Rattle.fp_quant.specs.Meanings.{for_alpha, for_both, CanAbstract, abstractions};
+ghost use Rattle.fp_quant.specs.Meanings.{for_alpha, for_both};
 
 use fp_kernel::{Defs, Thm};
-use fp_logic::steps::given;
 use fp_term::{Name, Term, Ty};
 use std::alloc::{AllocError, Global};
 
 /// The variable of that name and type.
-pub(crate) fn variable(alloc: Global, name: &Name, ty: &Ty) -> Result<Term, AllocError>
+pub fn variable(alloc: Global, name: &Name, ty: &Ty) -> Result<Term, AllocError>
     ensures { IfOk result (λ t. t ≡ free name.now ty.now) }
 {
     Term::free(alloc, name.copy()?, ty.copy()?)
@@ -37,29 +34,19 @@ fn for_beta(alloc: Global, ty: &Ty) -> Result<(Name, Ty), AllocError>
     Ok((Name::of(alloc, b"b")?, ty.copy()?))
 }
 
-// The instance by types of a theorem without hypotheses over some of the definitions.
-fn retyped(alloc: Global, defs: &Defs, th: &Thm, pairs: &[(Name, Ty)]) -> Result<Thm, AllocError>
-    requires whole { th.now ≡ plain th.now.defs th.now.concl }
-    requires within { Within th.now.defs defs.now }
-    requires known { AreTypesOf (signature_of defs.now) pairs.now }
-    ensures { IfOk result (λ i. i ≡ plain defs.now (retyped_term pairs.now th.now.concl)) }
-{
-    given(defs.inst_ty(alloc, th, pairs))
-}
-
 /// The instance by a type for `'a`.
-pub(crate) fn retyped_at(alloc: Global, defs: &Defs, th: &Thm, ty: &Ty) -> Result<Thm, AllocError>
+pub fn retyped_at(alloc: Global, defs: &Defs, th: &Thm, ty: &Ty) -> Result<Thm, AllocError>
     requires whole { th.now ≡ plain th.now.defs th.now.concl }
     requires within { Within th.now.defs defs.now }
     requires known { IsType (signature_of defs.now) ty.now }
     ensures { IfOk result (λ i. i ≡ plain defs.now (retyped_term (for_alpha ty.now) th.now.concl)) }
 {
     let pairs = [for_alpha(alloc, ty)?];
-    retyped(alloc, defs, th, &pairs)
+    defs.inst_ty_known(alloc, th, &pairs)
 }
 
 /// The instance by types for `'a` and `'b`.
-pub(crate) fn retyped_at_both(
+pub fn retyped_at_both(
     alloc: Global,
     defs: &Defs,
     th: &Thm,
@@ -74,40 +61,5 @@ pub(crate) fn retyped_at_both(
 {
     let alpha = for_alpha(alloc, first)?;
     let pairs = [alpha, for_beta(alloc, second)?];
-    retyped(alloc, defs, th, &pairs)
-}
-
-/// The instance by terms of a theorem without hypotheses.
-pub(crate) fn replaced(
-    alloc: Global,
-    defs: &Defs,
-    th: &Thm,
-    pairs: &[(Name, Ty, Term)],
-) -> Result<Thm, AllocError>
-    requires whole { th.now ≡ plain defs.now th.now.concl }
-    requires typed { AreTerms (signature_of defs.now) pairs.now }
-    ensures { IfOk result (λ i. i ≡ plain defs.now (replaced pairs.now th.now.concl)) }
-{
-    given(defs.inst(alloc, th, pairs))
-}
-
-/// `(%x. s) = (%x. t)` from `s = t`, for a variable that is free in no hypothesis.
-pub(crate) fn abstracted(
-    alloc: Global,
-    defs: &Defs,
-    name: &Name,
-    ty: &Ty,
-    th: &Thm,
-) -> Result<Thm, AllocError>
-    requires { CanAbstract defs.now name.now ty.now th.now }
-    ensures { IfOk result (λ l. l ≡ by_one defs.now th.now (abstractions name.now ty.now th.now.concl)) }
-{
-    given(defs.lam(alloc, name, ty, th))
-}
-
-/// `(%x. t x) = t`, the first axiom.
-pub(crate) fn extension(alloc: Global, defs: &Defs) -> Result<Thm, AllocError>
-    ensures { IfOk result (λ th. th ≡ plain defs.now eta) }
-{
-    given(defs.axiom(alloc, 1))
+    defs.inst_ty_known(alloc, th, &pairs)
 }

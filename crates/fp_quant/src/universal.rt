@@ -7,17 +7,15 @@ ghost use Rattle.fp_conclude.specs.Logic.{truth_type, predicate_type, equal, tru
 ghost use Rattle.fp_conclude.specs.Hypotheses.{occurs_in_any};
 ghost use Rattle.fp_kernel.specs.Definitions.{Within};
 ghost use Rattle.fp_kernel.specs.Start.{signature_of};
-ghost use Rattle.fp_logic.specs.Steps.{plain, by_one};
+ghost use Rattle.fp_kernel.specs.Theorems.{plain, by_one};
 ghost use Rattle.fp_quant.specs.Meanings.{always, universal_at};
 
-use crate::steps::{abstracted, retyped_at};
-use fp_conclude::abstraction;
-use fp_forms::shapes::left;
+use crate::steps::retyped_at;
+use fp_conclude::{LogicalConstant, abstraction, left};
 use fp_kernel::{Defs, Thm};
 use fp_logic::equations::unfold;
 use fp_logic::holding::{convert, fold};
-use fp_logic::steps::{definition, own, reduced};
-use fp_logic::truths::{true_equation, untrue};
+use fp_logic::truths::{eqt_elim_known, eqt_known};
 use fp_term::{Name, Term, Ty};
 use std::alloc::{AllocError, Global};
 
@@ -26,22 +24,18 @@ fn universal_schema(alloc: Global, defs: &Defs, ty: &Ty) -> Result<Thm, AllocErr
     requires { IsType (signature_of defs.now) ty.now }
     ensures { IfOk result (λ th. th ≡ plain defs.now (universal_at ty.now)) }
 {
-    let meaning = definition(alloc, defs, 4)?;
+    let meaning = defs.connective_known(alloc, LogicalConstant::Universal)?;
     retyped_at(alloc, defs, &meaning, ty)
 }
 
 /// `all P = (P = (%x. T))`, for a predicate on the type.
-pub(crate) fn universal(
-    alloc: Global,
-    defs: &Defs,
-    ty: &Ty,
-    predicate: &Term,
-) -> Result<Thm, AllocError>
+pub fn universal(alloc: Global, defs: &Defs, ty: &Ty, predicate: &Term) -> Result<Thm, AllocError>
     requires { IsWellTyped (signature_of defs.now) predicate.now (predicate_type ty.now) }
-    ensures { IfOk result (λ th. th ≡ plain defs.now (equal truth_type (app (quantifier (codes "all") ty.now) predicate.now) (always ty.now predicate.now))) }
+    ensures { IfOk result (λ th. th ≡ plain defs.now (equal truth_type
+        (app (quantifier (codes "all") ty.now) predicate.now) (always ty.now predicate.now))) }
 {
     let schema = universal_schema(alloc, defs, ty)?;
-    let own = own(alloc, defs, predicate)?;
+    let own = defs.refl_known(alloc, predicate)?;
     unfold(alloc, defs, &schema, &own)
 }
 
@@ -50,14 +44,15 @@ fn always_from(alloc: Global, defs: &Defs, name: &Name, ty: &Ty, a: &Thm) -> Res
     requires within { Within a.now.defs defs.now }
     requires known { IsType (signature_of defs.now) ty.now }
     requires apart { occurs_in_any name.now ty.now a.now.hyps ≡ false }
-    ensures { IfOk result (λ th. th ≡ by_one defs.now a.now (always ty.now (abs ty.now (closed 0 name.now ty.now a.now.concl)))) }
+    ensures { IfOk result (λ th. th ≡ by_one defs.now a.now (always ty.now
+        (abs ty.now (closed 0 name.now ty.now a.now.concl)))) }
 {
-    let equation = true_equation(alloc, defs, a)?;
-    abstracted(alloc, defs, name, ty, &equation)
+    let equation = eqt_known(alloc, defs, a)?;
+    defs.lam_known(alloc, name, ty, &equation)
 }
 
 /// `!x. p` from `p`, for a variable in no hypothesis.
-pub(crate) fn generalized(
+pub fn gen_all_known(
     alloc: Global,
     defs: &Defs,
     name: &Name,
@@ -103,15 +98,16 @@ fn true_at(
     requires within { Within a.now.defs defs.now }
     requires shape { a.now.concl ≡ app (quantifier (codes "all") ty.now) predicate.now }
     requires typed { IsWellTyped (signature_of defs.now) term.now ty.now }
-    ensures { IfOk result (λ th. th ≡ by_one defs.now a.now (equal truth_type (app predicate.now term.now) true_constant)) }
+    ensures { IfOk result (λ th. th ≡ by_one defs.now a.now (equal truth_type (app predicate.now term.now)
+        true_constant)) }
 {
     let always = always_of(alloc, defs, a, ty, predicate)?;
-    let own = own(alloc, defs, term)?;
+    let own = defs.refl_known(alloc, term)?;
     unfold(alloc, defs, &always, &own)
 }
 
 /// `P t` from `all P`.
-pub(crate) fn applied_to(
+pub fn applied_to(
     alloc: Global,
     defs: &Defs,
     a: &Thm,
@@ -125,11 +121,11 @@ pub(crate) fn applied_to(
     ensures { IfOk result (λ th. th ≡ by_one defs.now a.now (app predicate.now term.now)) }
 {
     let against = true_at(alloc, defs, a, ty, predicate, term)?;
-    untrue(alloc, defs, &against, left(against.concl()))
+    eqt_elim_known(alloc, defs, &against, left(against.concl()))
 }
 
 /// `p` with `t` in place of `v`, from `!v. p`.
-pub(crate) fn specialized(
+pub fn specialized(
     alloc: Global,
     defs: &Defs,
     a: &Thm,
@@ -144,6 +140,6 @@ pub(crate) fn specialized(
 {
     let predicate = abstraction(alloc, ty, body)?;
     let applied = applied_to(alloc, defs, a, ty, &predicate, term)?;
-    let step = reduced(alloc, defs, applied.concl())?;
+    let step = defs.beta_known(alloc, applied.concl())?;
     convert(alloc, defs, &step, &applied)
 }

@@ -8,34 +8,23 @@ ghost use Rattle.fp_conclude.specs.Hypotheses.{without, occurs, occurs_in_any};
 ghost use Rattle.fp_kernel.specs.Definitions.{Within};
 ghost use Rattle.fp_kernel.specs.Derivability.{IsFormula};
 ghost use Rattle.fp_kernel.specs.Start.{signature_of};
-ghost use Rattle.fp_forms.specs.Shapes.{left, right, body_in, IsAbstraction};
-ghost use Rattle.fp_logic.specs.Steps.{plain, by_one, by_both, without_one};
+ghost use Rattle.fp_conclude.specs.Shapes.{left, right, body_in, IsAbstraction};
+ghost use Rattle.fp_kernel.specs.Theorems.{plain, by_one};
+ghost use Rattle.fp_logic.specs.Steps.{without_one};
 ghost use Rattle.fp_quant.specs.Existential.{choice_made};
 ghost use Rattle.fp_forms.specs.Existence.{reaches, each_implies, at_choice};
 ghost use Rattle.fp_quant.specs.Existence.{IsPredicate, IsExistence};
 
 use crate::placing::{choice_at, elimination_at, introduction_at};
 use crate::steps::variable;
-use crate::universal::generalized;
+use crate::universal::gen_all_known;
 use fp_conclude::{abstraction, apply, connective};
 use fp_forms::existence::at_choice;
-use fp_forms::shapes;
 use fp_kernel::{Defs, Thm};
 use fp_logic::holding::{convert, fold};
-use fp_logic::implications::{discharged, modus};
-use fp_logic::steps::{combine, own, reduced};
+use fp_logic::implications::{disch_known, mp_known};
 use fp_term::{Name, Term, Ty};
 use std::alloc::{AllocError, Global};
-
-// `q` from `p --> q` and `p`, by the terms of the theorems.
-fn passed_on(alloc: Global, defs: &Defs, a: &Thm, b: &Thm) -> Result<Thm, AllocError>
-    requires over { a.now.defs ≡ defs.now }
-    requires within { Within b.now.defs defs.now }
-    requires shape { a.now.concl ≡ implication b.now.concl (right a.now.concl) }
-    ensures { IfOk result (λ th. th ≡ by_both defs.now a.now b.now (right a.now.concl)) }
-{
-    modus(alloc, defs, a, b, b.concl(), shapes::right(a.concl()))
-}
 
 // `q` from `p`, by `p --> q` without hypotheses.
 fn by_rule(alloc: Global, defs: &Defs, rule: &Thm, a: &Thm) -> Result<Thm, AllocError>
@@ -45,21 +34,23 @@ fn by_rule(alloc: Global, defs: &Defs, rule: &Thm, a: &Thm) -> Result<Thm, Alloc
 {
     let _hyps = a.hyps();
     let _promises = a.promises();
-    passed_on(alloc, defs, rule, a)
+    mp_known(alloc, defs, rule, a)
 }
 
-// `(%v. p) t = p` with `t` for `v`.
-fn applied(alloc: Global, defs: &Defs, predicate: &Term, term: &Term) -> Result<Thm, AllocError>
+/// `(%v. p) t = p` with `t` for `v`.
+pub fn applied(alloc: Global, defs: &Defs, predicate: &Term, term: &Term) -> Result<Thm, AllocError>
     requires abstraction { IsAbstraction predicate.now }
-    requires typed { (s : Typ) × IsPredicate defs.now s predicate.now × IsWellTyped (signature_of defs.now) term.now s }
-    ensures { IfOk result (λ th. th ≡ plain defs.now (equal truth_type (app predicate.now term.now) (opened 0 term.now (body_in predicate.now)))) }
+    requires typed { (s : Typ) × IsPredicate defs.now s predicate.now × IsWellTyped (signature_of defs.now) term.now
+        s }
+    ensures { IfOk result (λ th. th ≡ plain defs.now (equal truth_type (app predicate.now term.now) (opened 0 term.now
+        (body_in predicate.now)))) }
 {
     let redex = apply(alloc, predicate, term)?;
-    reduced(alloc, defs, &redex)
+    defs.beta_known(alloc, &redex)
 }
 
-// `(%v. p) t` from `p` with `t` for `v`.
-fn held_at(
+/// `(%v. p) t` from `p` with `t` for `v`.
+pub fn held_at(
     alloc: Global,
     defs: &Defs,
     a: &Thm,
@@ -69,7 +60,8 @@ fn held_at(
     requires within { Within a.now.defs defs.now }
     requires shape { a.now.concl ≡ opened 0 term.now (body_in predicate.now) }
     requires abstraction { IsAbstraction predicate.now }
-    requires typed { (s : Typ) × IsPredicate defs.now s predicate.now × IsWellTyped (signature_of defs.now) term.now s }
+    requires typed { (s : Typ) × IsPredicate defs.now s predicate.now × IsWellTyped (signature_of defs.now) term.now
+        s }
     ensures { IfOk result (λ th. th ≡ by_one defs.now a.now (app predicate.now term.now)) }
 {
     let equation = applied(alloc, defs, predicate, term)?;
@@ -77,7 +69,7 @@ fn held_at(
 }
 
 /// `?v. p` from `p` with `t` for `v`.
-pub(crate) fn witnessed(
+pub fn exists_known(
     alloc: Global,
     defs: &Defs,
     a: &Thm,
@@ -128,11 +120,11 @@ fn held_at_choice(
     let formula = at_choice(alloc, ty, predicate)?;
     let reaching = reaching(alloc, defs, a, ty, predicate, &formula)?;
     let each = choice_at(alloc, defs, ty, predicate)?;
-    passed_on(alloc, defs, &reaching, &each)
+    mp_known(alloc, defs, &reaching, &each)
 }
 
 /// `p` with `@v. p` for `v`, from `?v. p`.
-pub(crate) fn chosen(
+pub fn select_known(
     alloc: Global,
     defs: &Defs,
     a: &Thm,
@@ -141,20 +133,22 @@ pub(crate) fn chosen(
 ) -> Result<Thm, AllocError>
     requires existence { IsExistence defs.now a.now ty.now predicate.now }
     requires abstraction { IsAbstraction predicate.now }
-    ensures { IfOk result (λ th. th ≡ by_one defs.now a.now (opened 0 (select ty.now predicate.now) (body_in predicate.now))) }
+    ensures { IfOk result (λ th. th ≡ by_one defs.now a.now (opened 0 (select ty.now predicate.now)
+        (body_in predicate.now))) }
 {
     let held = held_at_choice(alloc, defs, a, ty, predicate)?;
-    let equation = reduced(alloc, defs, held.concl())?;
+    let equation = defs.beta_known(alloc, held.concl())?;
     convert(alloc, defs, &equation, &held)
 }
 
 // `imp = imp`
 #[tactic(auto, unfolding(fp_term::specs::Names::is_name))]
 fn own_implication(alloc: Global, defs: &Defs) -> Result<Thm, AllocError>
-    ensures { IfOk result (λ th. th ≡ plain defs.now (equal (binary_type truth_type truth_type) (connective (codes "imp")) (connective (codes "imp")))) }
+    ensures { IfOk result (λ th. th ≡ plain defs.now (equal (binary_type truth_type truth_type)
+        (connective (codes "imp")) (connective (codes "imp")))) }
 {
     let imp = connective(alloc, b"imp")?;
-    own(alloc, defs, &imp)
+    defs.refl_known(alloc, &imp)
 }
 
 // `(l --> q) = (r --> q)` from `l = r`.
@@ -164,23 +158,27 @@ fn with_conclusion(
     equation: &Thm,
     formula: &Term,
 ) -> Result<Thm, AllocError>
-    requires equation { equation.now ≡ plain defs.now (equal truth_type (left equation.now.concl) (right equation.now.concl)) }
+    requires equation { equation.now ≡ plain defs.now (equal truth_type (left equation.now.concl)
+        (right equation.now.concl)) }
     requires formula { IsFormula (signature_of defs.now) formula.now }
-    ensures { IfOk result (λ th. th ≡ plain defs.now (equal truth_type (implication (left equation.now.concl) formula.now) (implication (right equation.now.concl) formula.now))) }
+    ensures { IfOk result (λ th. th ≡ plain defs.now (equal truth_type
+        (implication (left equation.now.concl) formula.now) (implication (right equation.now.concl) formula.now))) }
 {
     let imp = own_implication(alloc, defs)?;
-    let once = combine(alloc, defs, &imp, equation)?;
-    let own = own(alloc, defs, formula)?;
-    combine(alloc, defs, &once, &own)
+    let once = defs.mk_comb_known(alloc, &imp, equation)?;
+    let own = defs.refl_known(alloc, formula)?;
+    defs.mk_comb_known(alloc, &once, &own)
 }
 
 // `l --> q` from `q`, by `l = r` and without the hypothesis `r`.
 fn implied(alloc: Global, defs: &Defs, equation: &Thm, b: &Thm) -> Result<Thm, AllocError>
-    requires equation { equation.now ≡ plain defs.now (equal truth_type (left equation.now.concl) (right equation.now.concl)) }
+    requires equation { equation.now ≡ plain defs.now (equal truth_type (left equation.now.concl)
+        (right equation.now.concl)) }
     requires within { Within b.now.defs defs.now }
-    ensures { IfOk result (λ th. th ≡ without_one defs.now (right equation.now.concl) b.now (implication (left equation.now.concl) b.now.concl)) }
+    ensures { IfOk result (λ th. th ≡ without_one defs.now (right equation.now.concl) b.now
+        (implication (left equation.now.concl) b.now.concl)) }
 {
-    let discharged = discharged(alloc, defs, shapes::right(equation.concl()), b)?;
+    let discharged = disch_known(alloc, defs, fp_conclude::right(equation.concl()), b)?;
     let turned = with_conclusion(alloc, defs, equation, b.concl())?;
     fold(alloc, defs, &turned, &discharged)
 }
@@ -197,19 +195,21 @@ fn each_implied(
     requires predicate { IsPredicate defs.now ty.now predicate.now }
     requires abstraction { IsAbstraction predicate.now }
     requires within { Within b.now.defs defs.now }
-    requires apart { occurs_in_any name.now ty.now (without (opened 0 (free name.now ty.now) (body_in predicate.now)) b.now.hyps) ≡ false }
+    requires apart { occurs_in_any name.now ty.now (without (opened 0 (free name.now ty.now) (body_in predicate.now))
+        b.now.hyps) ≡ false }
     requires predicate_apart { occurs name.now ty.now predicate.now ≡ false }
     requires concl_apart { occurs name.now ty.now b.now.concl ≡ false }
-    ensures { IfOk result (λ th. th ≡ without_one defs.now (opened 0 (free name.now ty.now) (body_in predicate.now)) b.now (each_implies ty.now predicate.now b.now.concl)) }
+    ensures { IfOk result (λ th. th ≡ without_one defs.now (opened 0 (free name.now ty.now) (body_in predicate.now))
+        b.now (each_implies ty.now predicate.now b.now.concl)) }
 {
     let variable = variable(alloc, name, ty)?;
     let equation = applied(alloc, defs, predicate, &variable)?;
     let implied = implied(alloc, defs, &equation, b)?;
-    generalized(alloc, defs, name, ty, &implied)
+    gen_all_known(alloc, defs, name, ty, &implied)
 }
 
 /// `q` from `?v. p` and from `q`, without the hypothesis `p` with `x` for `v`.
-pub(crate) fn eliminated(
+pub fn choose_known(
     alloc: Global,
     defs: &Defs,
     name: &Name,
@@ -221,12 +221,14 @@ pub(crate) fn eliminated(
     requires existence { IsExistence defs.now a.now ty.now predicate.now }
     requires abstraction { IsAbstraction predicate.now }
     requires within { Within b.now.defs defs.now }
-    requires apart { occurs_in_any name.now ty.now (without (opened 0 (free name.now ty.now) (body_in predicate.now)) b.now.hyps) ≡ false }
+    requires apart { occurs_in_any name.now ty.now (without (opened 0 (free name.now ty.now) (body_in predicate.now))
+        b.now.hyps) ≡ false }
     requires predicate_apart { occurs name.now ty.now predicate.now ≡ false }
     requires concl_apart { occurs name.now ty.now b.now.concl ≡ false }
-    ensures { IfOk result (λ th. th ≡ choice_made defs.now a.now b.now (without (opened 0 (free name.now ty.now) (body_in predicate.now)) b.now.hyps)) }
+    ensures { IfOk result (λ th. th ≡ choice_made defs.now a.now b.now (without (opened 0 (free name.now ty.now)
+        (body_in predicate.now)) b.now.hyps)) }
 {
     let each = each_implied(alloc, defs, name, ty, predicate, b)?;
     let reaching = reaching(alloc, defs, a, ty, predicate, b.concl())?;
-    passed_on(alloc, defs, &reaching, &each)
+    mp_known(alloc, defs, &reaching, &each)
 }

@@ -23,11 +23,11 @@ rewritten-rewritten-requires t c =
       ),
     )
 
-pub rewritten-with_argument-requires-clause-equation : goal.rewritten-with_argument-requires-clause-equation
-rewritten-with_argument-requires-clause-equation t c = own_parts c.in_ok-inner-in-App.ensures
+pub rewritten-ap_arg_known-requires-clause-equation : goal.rewritten-ap_arg_known-requires-clause-equation
+rewritten-ap_arg_known-requires-clause-equation t c = own_parts c.in_ok-inner-in-App.ensures
 
-pub rewritten-with_argument-requires-clause-typed : goal.rewritten-with_argument-requires-clause-typed
-rewritten-with_argument-requires-clause-typed t c = whole_typed (signature_of c.args.defs.now) c.args.term.now _ (sym c.node.ensures ∙ ap seen c.in-App.is) c.requires.typed
+pub rewritten-ap_arg_known-requires-clause-typed : goal.rewritten-ap_arg_known-requires-clause-typed
+rewritten-ap_arg_known-requires-clause-typed t c = whole_typed (signature_of c.args.defs.now) c.args.term.now _ (sym c.node.ensures ∙ ap seen c.in-App.is) c.requires.typed
 
 pub rewritten-rewritten-requires-else-step-eq0 : goal.rewritten-rewritten-requires-else-step-eq0
 rewritten-rewritten-requires-else-step-eq0 t c =
@@ -46,21 +46,21 @@ rewritten-rewritten-requires-else-step-eq0 t c =
       ),
     )
 
-pub rewritten-with_function-requires-clause-equation : goal.rewritten-with_function-requires-clause-equation
-rewritten-with_function-requires-clause-equation t c = own_parts c.in_ok-inner-in-App-2.ensures
+pub rewritten-ap_known-requires-clause-equation : goal.rewritten-ap_known-requires-clause-equation
+rewritten-ap_known-requires-clause-equation t c = own_parts c.in_ok-inner-in-App-2.ensures
 
-pub rewritten-with_function-requires-clause-typed : goal.rewritten-with_function-requires-clause-typed
-rewritten-with_function-requires-clause-typed t c = whole_typed (signature_of c.args.defs.now) c.args.term.now _ (sym c.node.ensures ∙ ap seen c.in-App.is) c.requires.typed
+pub rewritten-ap_known-requires-clause-typed : goal.rewritten-ap_known-requires-clause-typed
+rewritten-ap_known-requires-clause-typed t c = whole_typed (signature_of c.args.defs.now) c.args.term.now _ (sym c.node.ensures ∙ ap seen c.in-App.is) c.requires.typed
 
 pub rewritten-returns-in_ok-inner-in-App : goal.rewritten-returns-in_ok-inner-in-App
 rewritten-returns-in_ok-inner-in-App t c =
-    rewritten_in_function c.with_argument.result c.args.steps.now c.in-Some.rest.now c.in-Some.step.now c.args.term.now c.args.sides.now.right.now c.in-App.fun c.in-App.arg
-    c.in-Some.ensures.cases.0 c.if-step-eq0.true (sym c.node.ensures ∙ ap seen c.in-App.is) c.in_ok-inner-in-App.ensures c.with_argument.ensures
+    rewritten_in_function c.ap_arg_known.result c.args.steps.now c.in-Some.rest.now c.in-Some.step.now c.args.term.now c.args.sides.now.right.now c.in-App.fun c.in-App.arg
+    c.in-Some.ensures.cases.0 c.if-step-eq0.true (sym c.node.ensures ∙ ap seen c.in-App.is) c.in_ok-inner-in-App.ensures c.ap_arg_known.ensures
 
 pub rewritten-returns-in_ok-inner-in-App-2 : goal.rewritten-returns-in_ok-inner-in-App-2
 rewritten-returns-in_ok-inner-in-App-2 t c =
-    rewritten_in_argument c.with_function.result c.args.steps.now c.in-Some.rest.now c.in-Some.step.now c.args.term.now c.args.sides.now.right.now c.in-App.fun c.in-App.arg
-    c.in-Some.ensures.cases.0 c.if-step-eq0.false (sym c.node.ensures ∙ ap seen c.in-App.is) c.in_ok-inner-in-App-2.ensures c.with_function.ensures
+    rewritten_in_argument c.ap_known.result c.args.steps.now c.in-Some.rest.now c.in-Some.step.now c.args.term.now c.args.sides.now.right.now c.in-App.fun c.in-App.arg
+    c.in-Some.ensures.cases.0 c.if-step-eq0.false (sym c.node.ensures ∙ ap seen c.in-App.is) c.in_ok-inner-in-App-2.ensures c.ap_known.ensures
 
 pub in_abstraction-rewritten-requires : goal.in_abstraction-rewritten-requires
 in_abstraction-rewritten-requires t c =

@@ -1,15 +1,18 @@
 use Rattle.fp_conv.proofs.Given.{within, combine_given}
-use Rattle.fp_conv.proofs.Reduced.{both_reduce}
+use Rattle.fp_conv.proofs.Reduced.{both_reduce, both_right}
 use Rattle.fp_conv.proofs.beta.applied.Goals as goal
 
-pub combined-requires-clause-first_within : goal.combined-requires-clause-first_within
-combined-requires-clause-first_within c = within c.requires.functions.equates
+pub mk_comb_known-requires-clause-first_within : goal.mk_comb_known-requires-clause-first_within
+mk_comb_known-requires-clause-first_within c = within c.requires.functions.equates
 
-pub combined-requires-clause-second_within : goal.combined-requires-clause-second_within
-combined-requires-clause-second_within c = within c.requires.arguments.equates
+pub mk_comb_known-requires-clause-second_within : goal.mk_comb_known-requires-clause-second_within
+mk_comb_known-requires-clause-second_within c = within c.requires.arguments.equates
 
-pub combined-requires-clause-given : goal.combined-requires-clause-given
-combined-requires-clause-given c = combine_given c.requires.functions.equates c.requires.arguments.equates c.requires.typed
+pub mk_comb_known-requires-clause-given : goal.mk_comb_known-requires-clause-given
+mk_comb_known-requires-clause-given c = combine_given c.requires.functions.equates c.requires.arguments.equates c.requires.typed
 
-pub returns : goal.returns
-returns c = both_reduce c.combined.result c.requires.typed c.requires.functions c.requires.arguments c.combined.ensures
+pub returns-clause-reduction : goal.returns-clause-reduction
+returns-clause-reduction c = both_reduce c.mk_comb_known.result c.requires.typed c.requires.functions c.requires.arguments c.mk_comb_known.ensures
+
+pub returns-clause-sides : goal.returns-clause-sides
+returns-clause-sides c = both_right c.mk_comb_known.result c.requires.typed c.requires.functions c.requires.arguments c.mk_comb_known.ensures

@@ -10,8 +10,8 @@ pub universal-requires : goal.universal-requires
 universal-requires c =
     rw (c.argument_in-predicate.ensures, c.right.ensures, c.concl.ensures.value, c.in_ok-quantified.ensures) (at_start c.args.defs.now (all_ways p_variable q_variable) (predicate_type truth_type) refl refl)
 
-pub chain-requires : goal.chain-requires
-chain-requires c = rw (c.in_ok-universal.ensures, c.argument_in-predicate.ensures, c.right.ensures, c.concl.ensures.value, c.in_ok-quantified.ensures) (whole, whole, refl, refl)
+pub trans_known-requires : goal.trans_known-requires
+trans_known-requires c = rw (c.in_ok-universal.ensures, c.argument_in-predicate.ensures, c.right.ensures, c.concl.ensures.value, c.in_ok-quantified.ensures) (whole, whole, refl, refl)
 
 pub returns : goal.returns
-returns c = rw (c.in_ok-universal.ensures, c.argument_in-predicate.ensures, c.right.ensures, c.concl.ensures.value, c.in_ok-quantified.ensures) at c.chain.ensures
+returns c = rw (c.in_ok-universal.ensures, c.argument_in-predicate.ensures, c.right.ensures, c.concl.ensures.value, c.in_ok-quantified.ensures) at c.trans_known.ensures

@@ -2,7 +2,7 @@ use Rattle.std.proofs.Common.{◌∙◌, refl, ap}
 use Rattle.fp_term.specs.Terms.{app}
 use Rattle.fp_conclude.specs.Logic.{truth_type}
 use Rattle.fp_kernel.specs.Theorems.{Theorem}
-use Rattle.fp_forms.specs.Shapes.{left}
+use Rattle.fp_conclude.specs.Shapes.{left}
 use Rattle.fp_disjunction.specs.Schemas.{all_ways}
 use Rattle.fp_logic.proofs.Given.{Reduced, known_at, known_redex, known_typed}
 use Rattle.fp_disjunction.proofs.Ways.{ways_reduced, ways_typed}
@@ -11,11 +11,11 @@ use Rattle.fp_disjunction.proofs.disjunctions.ways.Goals as goal
 pub ways_at-requires-clause-disjunction : goal.ways_at-requires-clause-disjunction
 ways_at-requires-clause-disjunction c = c.requires.disjunction
 
-pub reduced-requires-clause-redex : goal.reduced-requires-clause-redex
-reduced-requires-clause-redex c = known_redex c.left.result.now (app (all_ways c.args.left.now c.args.right.now) c.args.term.now) (c.left.ensures ∙ ap left c.concl.ensures.value ∙ ap (λ (x : Theorem). left x.concl) c.in_ok-against.ensures) refl
+pub beta_known-requires-clause-redex : goal.beta_known-requires-clause-redex
+beta_known-requires-clause-redex c = known_redex c.left.result.now (app (all_ways c.args.left.now c.args.right.now) c.args.term.now) (c.left.ensures ∙ ap left c.concl.ensures.value ∙ ap (λ (x : Theorem). left x.concl) c.in_ok-against.ensures) refl
 
-pub reduced-requires-clause-typed : goal.reduced-requires-clause-typed
-reduced-requires-clause-typed c = known_typed c.args.defs.now c.left.result.now (app (all_ways c.args.left.now c.args.right.now) c.args.term.now) truth_type (c.left.ensures ∙ ap left c.concl.ensures.value ∙ ap (λ (x : Theorem). left x.concl) c.in_ok-against.ensures) (ways_typed c.args.defs.now c.in_ok-against.against c.args.left.now c.args.right.now c.args.term.now (ap (λ (x : Theorem). x.defs) c.in_ok-against.ensures) c.concl.ensures.derived (ap (λ (x : Theorem). x.concl) c.in_ok-against.ensures))
+pub beta_known-requires-clause-typed : goal.beta_known-requires-clause-typed
+beta_known-requires-clause-typed c = known_typed c.args.defs.now c.left.result.now (app (all_ways c.args.left.now c.args.right.now) c.args.term.now) truth_type (c.left.ensures ∙ ap left c.concl.ensures.value ∙ ap (λ (x : Theorem). left x.concl) c.in_ok-against.ensures) (ways_typed c.args.defs.now c.in_ok-against.against c.args.left.now c.args.right.now c.args.term.now (ap (λ (x : Theorem). x.defs) c.in_ok-against.ensures) c.concl.ensures.derived (ap (λ (x : Theorem). x.concl) c.in_ok-against.ensures))
 
 pub established-requires-clause-first : goal.established-requires-clause-first
 established-requires-clause-first c = ap (λ (x : Theorem). x.defs) c.in_ok-against.ensures

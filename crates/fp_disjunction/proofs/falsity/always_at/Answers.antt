@@ -5,8 +5,8 @@ use Rattle.fp_kernel.specs.Theorems.{Theorem}
 use Rattle.fp_disjunction.proofs.False.{always_asks, always_gives}
 use Rattle.fp_disjunction.proofs.falsity.always_at.Goals as goal
 
-pub own-requires : goal.own-requires
-own-requires c = (truth_type, c.requires.formula)
+pub refl_known-requires : goal.refl_known-requires
+refl_known-requires c = (truth_type, c.requires.formula)
 
 pub unfold-requires : goal.unfold-requires
 unfold-requires c = rw (c.in_ok-own.ensures truth_type c.requires.formula.typed) (always_asks c.args.defs.now c.args.th.now c.args.term.now c.requires.always)

@@ -1,5 +1,5 @@
 use Rattle.fp_logic.proofs.Shaped.{assumed_formula}
 use Rattle.fp_disjunction.proofs.joining.disj1.Goals as goal
 
-pub joined_first-requires-clause-formula : goal.joined_first-requires-clause-formula
-joined_first-requires-clause-formula c = (assumed_formula c.args.defs.now c.args.term.now c.in_ok-term.term (rw c.signature.ensures at c.in_ok-term.ensures)).1
+pub disj1_known-requires-clause-formula : goal.disj1_known-requires-clause-formula
+disj1_known-requires-clause-formula c = (assumed_formula c.args.defs.now c.args.term.now c.in_ok-term.term (rw c.signature.ensures at c.in_ok-term.ensures)).1

@@ -2,8 +2,8 @@ use Rattle.std.proofs.Common.{refl}
 use Rattle.fp_disjunction.proofs.Joined.{over_plain}
 use Rattle.fp_disjunction.proofs.joining.generalized.Goals as goal
 
-pub true_equation-requires : goal.true_equation-requires
-true_equation-requires c = over_plain c.args.defs.now c.args.th.now c.args.th.now.concl c.requires
+pub eqt_known-requires : goal.eqt_known-requires
+eqt_known-requires c = over_plain c.args.defs.now c.args.th.now c.args.th.now.concl c.requires
 
 pub abstracted-requires : goal.abstracted-requires
 abstracted-requires c = rw (c.in_ok-equation.ensures, c.requires) refl

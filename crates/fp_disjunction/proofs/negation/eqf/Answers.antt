@@ -1,5 +1,5 @@
 use Rattle.fp_disjunction.proofs.Negated.{negation_of}
 use Rattle.fp_disjunction.proofs.negation.eqf.Goals as goal
 
-pub falsified-requires : goal.falsified-requires
-falsified-requires c = negation_of c.args.defs.now c.args.a.now c.in-Some.term.now c.requires c.concl.ensures.derived (rw (c.in-Some.is, c.concl.ensures.value) at c.in_ok-part.ensures)
+pub eqf_known-requires : goal.eqf_known-requires
+eqf_known-requires c = negation_of c.args.defs.now c.args.a.now c.in-Some.term.now c.requires c.concl.ensures.derived (rw (c.in-Some.is, c.concl.ensures.value) at c.in_ok-part.ensures)

@@ -5,8 +5,8 @@ use Rattle.fp_forms.specs.Schemas.{p_variable}
 use Rattle.fp_logic.proofs.Concrete.{at_start}
 use Rattle.fp_disjunction.proofs.negation.falsity_from.Goals as goal
 
-pub assumed-requires : goal.assumed-requires
-assumed-requires c = rw c.requires.both (at_start c.args.defs.now (conjunction p_variable false_constant) truth_type refl refl)
+pub assume_known-requires : goal.assume_known-requires
+assume_known-requires c = rw c.requires.both (at_start c.args.defs.now (conjunction p_variable false_constant) truth_type refl refl)
 
 pub conjunct-requires : goal.conjunct-requires
 conjunct-requires c =

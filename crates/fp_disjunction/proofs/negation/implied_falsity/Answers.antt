@@ -4,8 +4,8 @@ use Rattle.fp_kernel.specs.Definitions.{whole}
 use Rattle.fp_logic.proofs.Concrete.{at_start}
 use Rattle.fp_disjunction.proofs.negation.implied_falsity.Goals as goal
 
-pub opened-requires : goal.opened-requires
-opened-requires c = c.requires
+pub not_elim_known-requires : goal.not_elim_known-requires
+not_elim_known-requires c = c.requires
 
 pub implied_from-requires : goal.implied_from-requires
 implied_from-requires c = rw (c.in_ok-opened.ensures, c.in_ok-falsity.ensures) (whole, refl, c.requires.2, at_start c.args.defs.now false_constant truth_type refl refl)

@@ -2,8 +2,8 @@ use Rattle.std.proofs.Common.{refl}
 use Rattle.fp_kernel.specs.Definitions.{whole}
 use Rattle.fp_logic.proofs.choosing.choice_schema_by.Goals as goal
 
-pub chain-requires : goal.chain-requires
-chain-requires c = rw (c.in_ok-passed.ensures, c.in_ok-twice.ensures) (whole, whole, refl, refl)
+pub trans_known-requires : goal.trans_known-requires
+trans_known-requires c = rw (c.in_ok-passed.ensures, c.in_ok-twice.ensures) (whole, whole, refl, refl)
 
 pub returns : goal.returns
-returns c = rw (c.in_ok-passed.ensures, c.in_ok-twice.ensures) at c.chain.ensures
+returns c = rw (c.in_ok-passed.ensures, c.in_ok-twice.ensures) at c.trans_known.ensures

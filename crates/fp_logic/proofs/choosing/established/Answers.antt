@@ -2,8 +2,8 @@ use Rattle.fp_conclude.specs.Logic.{truth_type}
 use Rattle.fp_logic.proofs.Turning.{establish_over, left_typed}
 use Rattle.fp_logic.proofs.choosing.established.Goals as goal
 
-pub own-requires : goal.own-requires
-own-requires c = (truth_type, rw (c.left.ensures, c.concl.ensures.value) (left_typed c.args.defs.now c.args.against.now c.requires.first c.concl.ensures.derived c.requires.shape))
+pub refl_known-requires : goal.refl_known-requires
+refl_known-requires c = (truth_type, rw (c.left.ensures, c.concl.ensures.value) (left_typed c.args.defs.now c.args.against.now c.requires.first c.concl.ensures.derived c.requires.shape))
 
 pub establish-requires : goal.establish-requires
 establish-requires c =

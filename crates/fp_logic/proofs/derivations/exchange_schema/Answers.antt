@@ -12,8 +12,8 @@ turned_round-requires c = rw (c.in_ok-left.ensures, c.in_ok-right.ensures) (at_s
 pub turned_round-requires-2 : goal.turned_round-requires-2
 turned_round-requires-2 c = rw (c.in_ok-left.ensures, c.in_ok-right.ensures) (at_start c.args.defs.now (equivalent p_variable q_variable) truth_type refl refl)
 
-pub equate-requires : goal.equate-requires
-equate-requires c = rw (c.in_ok-first.ensures, c.in_ok-second.ensures) (whole, whole)
+pub antisym_known-requires : goal.antisym_known-requires
+antisym_known-requires c = rw (c.in_ok-first.ensures, c.in_ok-second.ensures) (whole, whole)
 
 pub returns : goal.returns
-returns c = rw (c.in_ok-first.ensures, c.in_ok-second.ensures, c.in_ok-left.ensures, c.in_ok-right.ensures) at c.equate.ensures
+returns c = rw (c.in_ok-first.ensures, c.in_ok-second.ensures, c.in_ok-left.ensures, c.in_ok-right.ensures) at c.antisym_known.ensures

@@ -7,10 +7,10 @@ use Rattle.fp_logic.proofs.holding.carry.Goals as goal
 pub turn-requires : goal.turn-requires
 turn-requires c = rw c.in_ok-equality.ensures (carry_asks c.args.defs.now c.args.first.now c.args.second.now c.args.own.now c.args.third.now c.requires)
 
-pub replace-requires : goal.replace-requires
-replace-requires c = rw c.in_ok-turned.ensures (carry_last c.args.defs.now c.args.first.now c.args.second.now c.args.own.now c.args.third.now c.requires)
+pub eq_mp_known-requires : goal.eq_mp_known-requires
+eq_mp_known-requires c = rw c.in_ok-turned.ensures (carry_last c.args.defs.now c.args.first.now c.args.second.now c.args.own.now c.args.third.now c.requires)
 
 pub returns : goal.returns
 returns c =
     let is = carry_gives c.args.defs.now c.args.first.now c.args.second.now c.args.own.now c.args.third.now c.requires in
-    subst (λ (x : Theorem). IfOk c.replace.result (λ th. th ≡ x)) is (rw c.in_ok-turned.ensures at c.replace.ensures)
+    subst (λ (x : Theorem). IfOk c.eq_mp_known.result (λ th. th ≡ x)) is (rw c.in_ok-turned.ensures at c.eq_mp_known.ensures)

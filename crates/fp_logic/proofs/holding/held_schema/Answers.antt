@@ -1,8 +1,8 @@
 use Rattle.fp_kernel.specs.Definitions.{whole}
 use Rattle.fp_logic.proofs.holding.held_schema.Goals as goal
 
-pub equate-requires : goal.equate-requires
-equate-requires c = rw (c.in_ok-first.ensures, c.in_ok-second.ensures) (whole, whole)
+pub antisym_known-requires : goal.antisym_known-requires
+antisym_known-requires c = rw (c.in_ok-first.ensures, c.in_ok-second.ensures) (whole, whole)
 
 pub returns : goal.returns
-returns c = rw (c.in_ok-first.ensures, c.in_ok-second.ensures) at c.equate.ensures
+returns c = rw (c.in_ok-first.ensures, c.in_ok-second.ensures) at c.antisym_known.ensures

@@ -3,8 +3,8 @@ use Rattle.fp_kernel.specs.Definitions.{whole}
 use Rattle.fp_logic.proofs.Discharged.{conjunction_formula}
 use Rattle.fp_logic.proofs.implications.first_assumed.Goals as goal
 
-pub assumed-requires : goal.assumed-requires
-assumed-requires c = rw c.in_ok-both.ensures (conjunction_formula c.args.defs.now c.args.left.now c.args.right.now c.requires.left c.requires.right)
+pub assume_known-requires : goal.assume_known-requires
+assume_known-requires c = rw c.in_ok-both.ensures (conjunction_formula c.args.defs.now c.args.left.now c.args.right.now c.requires.left c.requires.right)
 
 pub conjunct-requires : goal.conjunct-requires
 conjunct-requires c = rw (c.in_ok-itself.ensures, c.in_ok-both.ensures) (whole, refl, c.requires.left, c.requires.right)

@@ -8,11 +8,11 @@ use Rattle.fp_quant.proofs.existence.elimination.Goals as goal
 pub reaches_from-requires : goal.reaches_from-requires
 reaches_from-requires c = c.in_ok-some.ensures
 
-pub discharged-requires-clause-within : goal.discharged-requires-clause-within
-discharged-requires-clause-within c = rw c.in_ok-reaches.ensures whole
+pub disch_known-requires-clause-within : goal.disch_known-requires-clause-within
+disch_known-requires-clause-within c = rw c.in_ok-reaches.ensures whole
 
-pub discharged-requires-clause-formula : goal.discharged-requires-clause-formula
-discharged-requires-clause-formula c = rw c.in_ok-some.ensures (at_start c.args.defs.now (some_such alpha predicate_variable) truth_type refl refl)
+pub disch_known-requires-clause-formula : goal.disch_known-requires-clause-formula
+disch_known-requires-clause-formula c = rw c.in_ok-some.ensures (at_start c.args.defs.now (some_such alpha predicate_variable) truth_type refl refl)
 
 pub returns : goal.returns
-returns c = rw (c.in_ok-reaches.ensures, c.in_ok-some.ensures) at c.discharged.ensures
+returns c = rw (c.in_ok-reaches.ensures, c.in_ok-some.ensures) at c.disch_known.ensures

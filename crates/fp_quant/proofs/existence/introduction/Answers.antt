@@ -8,11 +8,11 @@ use Rattle.fp_quant.proofs.existence.introduction.Goals as goal
 pub some_from-requires : goal.some_from-requires
 some_from-requires c = c.in_ok-held.ensures
 
-pub discharged-requires-clause-within : goal.discharged-requires-clause-within
-discharged-requires-clause-within c = rw c.in_ok-some.ensures whole
+pub disch_known-requires-clause-within : goal.disch_known-requires-clause-within
+disch_known-requires-clause-within c = rw c.in_ok-some.ensures whole
 
-pub discharged-requires-clause-formula : goal.discharged-requires-clause-formula
-discharged-requires-clause-formula c = rw c.in_ok-held.ensures (at_start c.args.defs.now holds truth_type refl refl)
+pub disch_known-requires-clause-formula : goal.disch_known-requires-clause-formula
+disch_known-requires-clause-formula c = rw c.in_ok-held.ensures (at_start c.args.defs.now holds truth_type refl refl)
 
 pub returns : goal.returns
-returns c = rw (c.in_ok-some.ensures, c.in_ok-held.ensures) at c.discharged.ensures
+returns c = rw (c.in_ok-some.ensures, c.in_ok-held.ensures) at c.disch_known.ensures

@@ -5,8 +5,8 @@ use Rattle.fp_logic.proofs.Concrete.{at_start}
 use Rattle.fp_forms.specs.Existence.{predicate_variable, some_such}
 use Rattle.fp_quant.proofs.existence.opened.Goals as goal
 
-pub assumed-requires : goal.assumed-requires
-assumed-requires c = rw c.requires (at_start c.args.defs.now (some_such alpha predicate_variable) truth_type refl refl)
+pub assume_known-requires : goal.assume_known-requires
+assume_known-requires c = rw c.requires (at_start c.args.defs.now (some_such alpha predicate_variable) truth_type refl refl)
 
 pub convert-requires : goal.convert-requires
 convert-requires c = rw (c.in_ok-meaning.ensures, c.in_ok-itself.ensures, c.requires) (refl, whole, refl)

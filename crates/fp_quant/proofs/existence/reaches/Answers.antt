@@ -12,11 +12,11 @@ reached-requires-clause-each c = c.in_ok-each.ensures
 pub reached-requires-clause-held : goal.reached-requires-clause-held
 reached-requires-clause-held c = c.requires
 
-pub discharged-requires-clause-within : goal.discharged-requires-clause-within
-discharged-requires-clause-within c = rw c.in_ok-reached.ensures whole
+pub disch_known-requires-clause-within : goal.disch_known-requires-clause-within
+disch_known-requires-clause-within c = rw c.in_ok-reached.ensures whole
 
-pub discharged-requires-clause-formula : goal.discharged-requires-clause-formula
-discharged-requires-clause-formula c = rw c.in_ok-each.ensures (at_start c.args.defs.now (each_implies alpha predicate_variable q_variable) truth_type refl refl)
+pub disch_known-requires-clause-formula : goal.disch_known-requires-clause-formula
+disch_known-requires-clause-formula c = rw c.in_ok-each.ensures (at_start c.args.defs.now (each_implies alpha predicate_variable q_variable) truth_type refl refl)
 
 pub returns : goal.returns
-returns c = rw (c.in_ok-reached.ensures, c.in_ok-each.ensures) at c.discharged.ensures
+returns c = rw (c.in_ok-reached.ensures, c.in_ok-each.ensures) at c.disch_known.ensures

@@ -4,8 +4,8 @@ use Rattle.fp_kernel.specs.Theorems.{Theorem}
 use Rattle.fp_quant.proofs.Functions.{left_asks, left_gives}
 use Rattle.fp_quant.proofs.extensional.left_reduced.Goals as goal
 
-pub chain-requires : goal.chain-requires
-chain-requires c =
+pub trans_known-requires : goal.trans_known-requires
+trans_known-requires c =
     let f = c.args.functions.now in
     rw c.in_ok-expanded.ensures (left_asks c.args.defs.now f.from.now f.to.now f.left.now f.right.now c.args.th.now c.requires.within c.requires.shape)
 
@@ -13,4 +13,4 @@ pub returns : goal.returns
 returns c =
     let f = c.args.functions.now in
     let is = left_gives c.args.defs.now f.from.now f.to.now f.left.now f.right.now c.args.th.now c.requires.shape c.hyps-hyps.ensures.set c.promises-promises.ensures.set in
-    subst (λ (x : Theorem). IfOk c.chain.result (λ r. r ≡ x)) is (rw c.in_ok-expanded.ensures at c.chain.ensures)
+    subst (λ (x : Theorem). IfOk c.trans_known.result (λ r. r ≡ x)) is (rw c.in_ok-expanded.ensures at c.trans_known.ensures)

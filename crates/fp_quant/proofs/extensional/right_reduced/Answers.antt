@@ -4,8 +4,8 @@ use Rattle.fp_kernel.specs.Theorems.{Theorem}
 use Rattle.fp_quant.proofs.Functions.{right_asks, right_gives}
 use Rattle.fp_quant.proofs.extensional.right_reduced.Goals as goal
 
-pub chain-requires : goal.chain-requires
-chain-requires c =
+pub trans_known-requires : goal.trans_known-requires
+trans_known-requires c =
     let f = c.args.functions.now in
     rw c.in_ok-eta.ensures (right_asks c.args.defs.now f.from.now f.to.now f.left.now f.right.now c.args.th.now c.requires.within c.requires.shape)
 
@@ -13,4 +13,4 @@ pub returns : goal.returns
 returns c =
     let f = c.args.functions.now in
     let is = right_gives c.args.defs.now f.from.now f.to.now f.left.now f.right.now c.args.th.now c.requires.shape in
-    subst (λ (x : Theorem). IfOk c.chain.result (λ r. r ≡ x)) is (rw c.in_ok-eta.ensures at c.chain.ensures)
+    subst (λ (x : Theorem). IfOk c.trans_known.result (λ r. r ≡ x)) is (rw c.in_ok-eta.ensures at c.trans_known.ensures)

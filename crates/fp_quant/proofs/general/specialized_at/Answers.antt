@@ -3,5 +3,5 @@ use Rattle.fp_kernel.specs.Start.{signature_of}
 use Rattle.fp_quant.proofs.Accepted.{accepted_typed}
 use Rattle.fp_quant.proofs.general.specialized_at.Goals as goal
 
-pub instance-requires-clause-typed : goal.instance-requires-clause-typed
-instance-requires-clause-typed c = accepted_typed (signature_of c.args.defs.now) c.args.term.now c.args.of_term.now c.args.ty.now c.requires.typed (sym c.equals.ensures ∙ c.if-not-equals.false)
+pub spec_known-requires-clause-typed : goal.spec_known-requires-clause-typed
+spec_known-requires-clause-typed c = accepted_typed (signature_of c.args.defs.now) c.args.term.now c.args.of_term.now c.args.ty.now c.requires.typed (sym c.equals.ensures ∙ c.if-not-equals.false)

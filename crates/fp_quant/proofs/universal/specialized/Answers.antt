@@ -2,8 +2,7 @@ use Rattle.std.proofs.Common.{◌∙◌, refl, ap}
 use Rattle.fp_term.specs.Terms.{Tm, app, abs}
 use Rattle.fp_conclude.specs.Logic.{truth_type}
 use Rattle.fp_kernel.specs.Definitions.{whole}
-use Rattle.fp_kernel.specs.Theorems.{Theorem}
-use Rattle.fp_logic.specs.Steps.{by_one}
+use Rattle.fp_kernel.specs.Theorems.{Theorem, by_one}
 use Rattle.fp_logic.proofs.Given.{Reduced, known_at, known_redex, known_typed}
 use Rattle.fp_quant.proofs.Universals.{concl_made}
 use Rattle.fp_quant.proofs.universal.specialized.Goals as goal
@@ -11,15 +10,15 @@ use Rattle.fp_quant.proofs.universal.specialized.Goals as goal
 pub applied_to-requires-clause-shape : goal.applied_to-requires-clause-shape
 applied_to-requires-clause-shape c = rw c.in_ok-predicate.ensures c.requires.shape
 
-pub reduced-requires-clause-redex : goal.reduced-requires-clause-redex
-reduced-requires-clause-redex c =
+pub beta_known-requires-clause-redex : goal.beta_known-requires-clause-redex
+beta_known-requires-clause-redex c =
     let t = app (abs c.args.ty.now c.args.body.now) c.args.term.now in
     let made = c.in_ok-applied.ensures ∙ ap (λ (x : Tm). by_one c.args.defs.now c.args.a.now (app x c.args.term.now)) c.in_ok-predicate.ensures in
     let e = c.concl.ensures.value ∙ ap (λ (x : Theorem). x.concl) made in
     known_redex c.concl.result.now t e refl
 
-pub reduced-requires-clause-typed : goal.reduced-requires-clause-typed
-reduced-requires-clause-typed c =
+pub beta_known-requires-clause-typed : goal.beta_known-requires-clause-typed
+beta_known-requires-clause-typed c =
     let t = app (abs c.args.ty.now c.args.body.now) c.args.term.now in
     let made = c.in_ok-applied.ensures ∙ ap (λ (x : Tm). by_one c.args.defs.now c.args.a.now (app x c.args.term.now)) c.in_ok-predicate.ensures in
     let e = c.concl.ensures.value ∙ ap (λ (x : Theorem). x.concl) made in

@@ -3,7 +3,7 @@ use Rattle.std.specs.Prelude.{IfOk}
 use Rattle.fp_term.specs.Terms.{Tm, free, opened}
 use Rattle.fp_conclude.specs.Logic.{for_all}
 use Rattle.fp_kernel.specs.Definitions.{whole}
-use Rattle.fp_forms.specs.Shapes.{body_in}
+use Rattle.fp_conclude.specs.Shapes.{body_in}
 use Rattle.fp_logic.specs.Steps.{without_one}
 use Rattle.fp_quant.proofs.Reached.{variable_typed, closed_implied}
 use Rattle.fp_quant.proofs.witness.each_implied.Goals as goal
@@ -17,18 +17,18 @@ applied-requires-clause-typed c = (c.args.ty.now, c.requires.predicate, rw c.in_
 pub implied-requires-clause-equation : goal.implied-requires-clause-equation
 implied-requires-clause-equation c = rw c.in_ok-equation.ensures refl
 
-pub generalized-requires-clause-within : goal.generalized-requires-clause-within
-generalized-requires-clause-within c = rw c.in_ok-implied.ensures whole
+pub gen_all_known-requires-clause-within : goal.gen_all_known-requires-clause-within
+gen_all_known-requires-clause-within c = rw c.in_ok-implied.ensures whole
 
-pub generalized-requires-clause-known : goal.generalized-requires-clause-known
-generalized-requires-clause-known c = c.requires.predicate.0
+pub gen_all_known-requires-clause-known : goal.gen_all_known-requires-clause-known
+gen_all_known-requires-clause-known c = c.requires.predicate.0
 
-pub generalized-requires-clause-apart : goal.generalized-requires-clause-apart
-generalized-requires-clause-apart c = rw (c.in_ok-implied.ensures, c.in_ok-equation.ensures, c.in_ok-variable.ensures) c.requires.apart
+pub gen_all_known-requires-clause-apart : goal.gen_all_known-requires-clause-apart
+gen_all_known-requires-clause-apart c = rw (c.in_ok-implied.ensures, c.in_ok-equation.ensures, c.in_ok-variable.ensures) c.requires.apart
 
 pub returns : goal.returns
 returns c =
     let reduced = opened 0 (free c.args.name.now c.args.ty.now) (body_in c.args.predicate.now) in
-    subst (λ (x : Tm). IfOk c.generalized.result (λ th. th ≡ without_one c.args.defs.now reduced c.args.b.now (for_all c.args.ty.now x)))
+    subst (λ (x : Tm). IfOk c.gen_all_known.result (λ th. th ≡ without_one c.args.defs.now reduced c.args.b.now (for_all c.args.ty.now x)))
     (closed_implied c.args.name.now c.args.ty.now c.args.predicate.now c.args.b.now.concl c.requires.predicate_apart c.requires.concl_apart)
-    (rw (c.in_ok-implied.ensures, c.in_ok-equation.ensures, c.in_ok-variable.ensures) at c.generalized.ensures)
+    (rw (c.in_ok-implied.ensures, c.in_ok-equation.ensures, c.in_ok-variable.ensures) at c.gen_all_known.ensures)

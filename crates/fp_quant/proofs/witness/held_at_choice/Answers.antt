@@ -12,14 +12,14 @@ reaching-requires-clause-formula c = rw c.in_ok-formula.ensures (at_choice_formu
 pub choice_at-requires : goal.choice_at-requires
 choice_at-requires c = c.requires.2
 
-pub passed_on-requires-clause-over : goal.passed_on-requires-clause-over
-passed_on-requires-clause-over c = rw c.in_ok-reaching.ensures refl
+pub mp_known-requires-clause-first_within : goal.mp_known-requires-clause-first_within
+mp_known-requires-clause-first_within c = rw c.in_ok-reaching.ensures whole
 
-pub passed_on-requires-clause-within : goal.passed_on-requires-clause-within
-passed_on-requires-clause-within c = rw c.in_ok-each.ensures whole
+pub mp_known-requires-clause-second_within : goal.mp_known-requires-clause-second_within
+mp_known-requires-clause-second_within c = rw c.in_ok-each.ensures whole
 
-pub passed_on-requires-clause-shape : goal.passed_on-requires-clause-shape
-passed_on-requires-clause-shape c = rw (c.in_ok-each.ensures, c.in_ok-reaching.ensures, c.in_ok-formula.ensures) refl
+pub mp_known-requires-clause-shape : goal.mp_known-requires-clause-shape
+mp_known-requires-clause-shape c = rw (c.in_ok-each.ensures, c.in_ok-reaching.ensures, c.in_ok-formula.ensures) refl
 
 pub returns : goal.returns
-returns c = rw (c.in_ok-each.ensures, c.in_ok-reaching.ensures, c.in_ok-formula.ensures) at c.passed_on.ensures
+returns c = rw (c.in_ok-each.ensures, c.in_ok-reaching.ensures, c.in_ok-formula.ensures) at c.mp_known.ensures

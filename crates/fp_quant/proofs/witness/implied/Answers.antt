@@ -2,14 +2,14 @@ use Rattle.std.proofs.Common.{refl, ap}
 use Rattle.fp_conclude.specs.Logic.{truth_type, equal}
 use Rattle.fp_kernel.specs.Definitions.{whole}
 use Rattle.fp_kernel.specs.Theorems.{Theorem}
-use Rattle.fp_forms.specs.Shapes.{left, right}
+use Rattle.fp_conclude.specs.Shapes.{left, right}
 use Rattle.fp_logic.proofs.Turning.{lifted, lifted_sides}
 use Rattle.fp_quant.proofs.Reached.{itself_plain}
 use Rattle.fp_quant.proofs.Placed.{plain_within}
 use Rattle.fp_quant.proofs.witness.implied.Goals as goal
 
-pub discharged-requires-clause-formula : goal.discharged-requires-clause-formula
-discharged-requires-clause-formula c =
+pub disch_known-requires-clause-formula : goal.disch_known-requires-clause-formula
+disch_known-requires-clause-formula c =
     let l = left c.args.equation.now.concl in
     let r = right c.args.equation.now.concl in
     let within = plain_within c.args.defs.now c.args.equation.now (itself_plain c.args.defs.now c.args.equation.now (equal truth_type l r) c.requires.equation) in

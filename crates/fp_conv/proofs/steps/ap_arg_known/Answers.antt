@@ -1,0 +1,14 @@
+use Rattle.fp_conv.proofs.Given.{within, combine_given, argument_equates}
+use Rattle.fp_conv.proofs.steps.ap_arg_known.Goals as goal
+
+pub mk_comb_known-requires-clause-first_within : goal.mk_comb_known-requires-clause-first_within
+mk_comb_known-requires-clause-first_within c = within c.requires.equation
+
+pub mk_comb_known-requires-clause-second_within : goal.mk_comb_known-requires-clause-second_within
+mk_comb_known-requires-clause-second_within c = within c.in_ok-same.ensures
+
+pub mk_comb_known-requires-clause-given : goal.mk_comb_known-requires-clause-given
+mk_comb_known-requires-clause-given c = combine_given c.requires.equation c.in_ok-same.ensures c.requires.typed
+
+pub returns : goal.returns
+returns c = argument_equates c.mk_comb_known.result c.requires.equation c.in_ok-same.ensures c.requires.typed c.mk_comb_known.ensures
