@@ -30,5 +30,7 @@ pub use logic::{
     apply, apply_both, equality_at, equality_type, equation, predicate_over, truth_type,
 };
 pub use parts::{Equation, function_parts, is_truth, redex_parts, sides};
-pub use shapes::{argument_in, body_in, equality_in, function_in, left, right, side_type, source, target};
+pub use shapes::{
+    argument_in, body_in, equality_in, function_in, left, right, side_type, source, target,
+};
 pub use substitution::{inst, inst_ty};

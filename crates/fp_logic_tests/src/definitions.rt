@@ -153,9 +153,7 @@ const AGAIN: Refusal = Refusal {
 
 fn is_longer(defs: &Defs) -> bool {
     let signature = defs.signature();
-    defs.level() == 1
-        && signature.consts.len() == 11
-        && signature.types.len() == 3
+    defs.level() == 1 && signature.consts.len() == 11 && signature.types.len() == 3
 }
 
 #[test]

@@ -50,9 +50,11 @@ fn has_type(alloc: Global, defs: &Defs) -> Result<bool, AllocError> {
     let new = name(alloc, "one")?;
     let abs = name(alloc, "one_abs")?;
     let signature = defs.signature();
-    Ok(defs.level() == 1
-        && signature.arity(&new) == Some(0)
-        && signature.const_type(&abs).is_some())
+    Ok(
+        defs.level() == 1
+            && signature.arity(&new) == Some(0)
+            && signature.const_type(&abs).is_some(),
+    )
 }
 
 // The type of what equals `T` can be defined.
@@ -126,7 +128,13 @@ fn same_refused(
 fn given_refused(alloc: Global, text: &str) -> Result<bool, RuleFault> {
     let mut defs = Defs::new(alloc)?;
     let inhabited = given(alloc, &defs, text)?;
-    Ok(is_refused(alloc, &mut defs, NAMES, &inhabited, ("NotInhabitedForm", "")))
+    Ok(is_refused(
+        alloc,
+        &mut defs,
+        NAMES,
+        &inhabited,
+        ("NotInhabitedForm", ""),
+    ))
 }
 
 #[test]
