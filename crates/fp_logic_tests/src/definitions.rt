@@ -181,21 +181,3 @@ fn a_long_list(rt: HostRuntime) -> Result<(), Fail> {
     assert!(rt; defs.level() == 3000);
     Ok(())
 }
-
-// The first definition stays, and the name of the second is free again.
-fn is_shortened(alloc: Global, defs: &mut Defs) -> bool {
-    if defs.level() < 1 {
-        return false;
-    }
-    defs.back_to(1);
-    defs.level() == 1 && !is_defined(alloc, defs, "c") && is_defined(alloc, defs, "d")
-}
-
-#[test]
-fn a_list_is_shortened(rt: HostRuntime) -> Result<(), Fail> {
-    let mut defs = Defs::new(rt.alloc())?;
-    assert!(rt; is_defined(rt.alloc(), &mut defs, "c"));
-    assert!(rt; is_defined(rt.alloc(), &mut defs, "d"));
-    assert!(rt; is_shortened(rt.alloc(), &mut defs));
-    Ok(())
-}

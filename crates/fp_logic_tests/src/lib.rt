@@ -1,5 +1,5 @@
 //! Tests of the kernel: each rule of the logic and each of its refusals on written terms, the statements that the logic
-//! begins with, definitions, and promises.
+//! begins with, and definitions.
 #![tactic(auto)]
 
 #[cfg(test)]
@@ -7,8 +7,4 @@ mod calls;
 #[cfg(test)]
 mod definitions;
 #[cfg(test)]
-mod promises;
-#[cfg(test)]
 mod rules;
-#[cfg(test)]
-mod types;
