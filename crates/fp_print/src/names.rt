@@ -73,10 +73,7 @@ fn names_of_term(alloc: Global, term: &Term) -> Result<Items<Name>, AllocError>
 }
 
 // The names of the free variables and the constants of a statement.
-fn names_of_statement(
-    alloc: Global,
-    statement: &Statement,
-) -> Result<Items<Name>, AllocError>
+fn names_of_statement(alloc: Global, statement: &Statement) -> Result<Items<Name>, AllocError>
     ensures { IfOk result (λ used. used ≡ with_names (with_names_of_all [] statement.now.hyps) statement.now.concl) }
 {
     let mut used = Items::new(alloc);
@@ -206,11 +203,7 @@ fn names_of_binders(
 }
 
 #[tactic(auto, using(crate::proofs::Known::binder_names_length))]
-fn binder_names(
-    alloc: Global,
-    used: Items<Name>,
-    number: u32,
-) -> Result<BinderNames, AllocError>
+fn binder_names(alloc: Global, used: Items<Name>, number: u32) -> Result<BinderNames, AllocError>
     ensures { IfOk result (λ names. names ≡ used) }
 {
     let known = names_of_binders(alloc, used.as_slice(), number)?;

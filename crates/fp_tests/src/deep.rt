@@ -55,7 +55,12 @@ fn is_substituted(alloc: Global, deep: &Term) -> Result<bool, AllocError> {
     let opened = open_with(alloc, &closed, &x)?;
     let pairs = [(name.copy()?, ty.copy()?, term(alloc, "(v y 'a)")?)];
     let other = inst(alloc, deep, &pairs)?;
-    Ok(same(deep, &opened) && !same(deep, &other) && occurs(name, ty, deep) && !occurs(name, ty, &other))
+    Ok(
+        same(deep, &opened)
+            && !same(deep, &other)
+            && occurs(name, ty, deep)
+            && !occurs(name, ty, &other),
+    )
 }
 
 fn is_retyped(alloc: Global, deep: &Term) -> Result<bool, AllocError> {
