@@ -1,8 +1,9 @@
 //! Names, types and terms.
 use fp_full::{print_full_term, read_full_term};
 use fp_term::{
-    Arities, Consts, Name, Signature, Term, Ty, Tys, close_over, copy_all, depth, first_free,
-    function_of, hidden_type, inst, match_ty, nodes, open_with, same, truth_name, type_of,
+    Arities, Consts, Items, Name, Signature, Term, Ty, Tys, close_over, copy_all, depth,
+    first_free, function_of, hidden_type, inst, match_ty, nodes, open_with, same, truth_name,
+    type_of,
 };
 use std::alloc::{AllocError, Global};
 
