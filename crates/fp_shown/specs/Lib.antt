@@ -1,0 +1,3 @@
+pub mod Fillings
+pub mod Known
+pub mod Shown
