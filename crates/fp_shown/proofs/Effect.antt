@@ -121,8 +121,9 @@ shown_free at row_of n rows known in_list place cell w full other fills others s
     (λ k h. same k (λ q. gone (subst (λ (x : ℕ). After (known_at at known) o.0 (λ r. r < rows) (row_of x)) q h)))
 
 -- where each cell is known or shown, each two fillings have one result
-pub closed_one : (at : ℕ → ℕ → ℕ) (n rows cells : ℕ) → ((known : List (Option Entry)) → length known ≡ cells → IsInside at n (λ r. r < rows) known) → ClosedHasOneResult at n rows cells
-closed_one at n rows cells in_list row_of place known len closed full other fills others =
+pub closed_one : (at : ℕ → ℕ → ℕ) (row_of : ℕ → ℕ) (n rows cells : ℕ) → ((known : List (Option Entry)) → length known ≡ cells → IsInside at n (λ r. r < rows) known) →
+    ((c r : ℕ) → c < n → r < rows → row_of (at c r) ≡ r) → ClosedHasOneResult at row_of n rows cells
+closed_one at row_of n rows cells in_list place known len closed full other fills others =
     let o = forces_exists (known_at at known) n (λ r. r < rows) (rows_below rows) in
     same_result at row_of n rows known place o.0 o.1 full other fills others (λ k h. elim (cases_lt k cells) [
       | inr far ↦ past_end full k (omega (arith, fills.len, len, far)) ∙ sym (past_end other k (omega (arith, others.len, len, far)))

@@ -1,5 +1,5 @@
 -- Where an element stands among lists of one length, one after another.
-use Rattle.std.proofs.Common.{◌≡◌, ◌<◌, ◌≤◌, ◌+◌, ◌*◌, ℕ, zero, suc, List, [], ◌∷◌, ◌++◌, map, length, get_or, refl, arith, inl, inr, sym, ◌∙◌, ap, subst, length-append, append_assoc, append-nil, add-one, take}
+use Rattle.std.proofs.Common.{◌≡◌, ◌<◌, ◌+◌, ◌*◌, ℕ, zero, suc, List, [], ◌∷◌, ◌++◌, map, length, get_or, refl, arith, inl, inr, sym, ◌∙◌, ap, subst, length-append, append_assoc, append-nil, add-one, take}
 use Rattle.std.proofs.Math.ListN.{get_or-append}
 use Rattle.std.proofs.Math.Seq.{get_or-append_seam, take-suc}
 use Rattle.std.proofs.lemmas.Grind.{flat_map-append}

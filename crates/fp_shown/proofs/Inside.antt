@@ -1,18 +1,19 @@
 -- The cells of columns, and what the loop over sure columns ends with.
-use Rattle.std.proofs.Common.{◌≡◌, ◌<◌, ◌+◌, ◌*◌, ◌∙◌, ℕ, List, [], map, length, get_or, arith, refl, sym, subst, append-nil, Option, Some, None, MatchOption}
+use Rattle.std.proofs.Common.{◌≡◌, ◌<◌, ◌+◌, ◌*◌, ◌∙◌, ℕ, List, [], map, length, get_or, arith, ap, refl, sym, subst, append-nil, Option, Some, None, MatchOption}
 use Rattle.std.proofs.lemmas.List.Elements.{All-get_or}
 use Rattle.fp_order.specs.declared.entry.Entry.{Entry}
 use Rattle.fp_order.specs.declared.grid.Grid.{Grid}
+use Rattle.fp_order.specs.declared.grid.Cell.{Cell}
 use Rattle.std.specs.List.{flat_map}
 use Rattle.fp_order.specs.Numbers.{number_of}
 use Rattle.fp_shown.proofs.Flat.{below_at, below_map_len, flat_len, flat_at}
 use Rattle.fp_order.specs.Grid.{below, caller, callee, columns_of, cell_on, cells_of, IsGrid, IsCell, IsColumn}
 use Rattle.fp_order.specs.Greedy.{IsLeft}
 use Rattle.fp_order.proofs.CutLists.{columns_fit}
-use Rattle.fp_order.proofs.Table.{number_inside}
+use Rattle.fp_order.proofs.Table.{number_inside, number_holds}
 use Rattle.fp_shown.specs.Known.{known_at, IsStuck}
 use Rattle.fp_shown.specs.Fillings.{IsForced, IsShownRow, TellsShown}
-use Rattle.fp_shown.specs.Shown.{number_on}
+use Rattle.fp_shown.specs.Shown.{number_on, row_of}
 use Rattle.fp_shown.proofs.Forces.{Forces, After, IsForcing, forcing_end}
 use Rattle.fp_shown.proofs.Longest.{IsInside, forces_forced, gone_shown, shown_gone}
 
@@ -72,3 +73,12 @@ numbers_long g numbers s n rows t h =
     let len : length (flat_map f (columns_of g.functions)) ≡ length (columns_of g.functions) * length g.rows =
     flat_len f (length g.rows) (λ x. below_map_len (λ r. number_of g (cell_on g x r)) (length g.rows)) (columns_of g.functions) in
     rw (s, t, h) len
+
+-- the row of the cell that a column has on a row is that row
+row_of_number : (g : Grid) (x : Cell) → IsCell g x → row_of g (number_of g x) ≡ x.row
+unfolding row_of
+row_of_number g x h = let none : Cell = record { row = 0; source = 0; target = 0 } in ap (λ (y : Cell). y.row) (number_holds g x h none)
+
+pub placed : (g : Grid) (c r : ℕ) → IsGrid g → c < length (columns_of g.functions) → r < length g.rows → row_of g (number_on g c r) ≡ r
+unfolding number_on
+placed g c r h l k = row_of_number g (cell_on g (get_or (columns_of g.functions) c []) r) (on_cell g c r h l k)

@@ -5,3 +5,5 @@ pub mod ColumnKind
 pub mod Inside
 pub mod Cells
 pub mod Flat
+pub mod Boards
+pub mod Plays

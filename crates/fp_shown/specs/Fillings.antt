@@ -66,14 +66,12 @@ ShownStays at count rows cells = (known more : List (Option Entry)) → length k
     (row : ℕ) → IsShownRow at count rows known row → IsShownRow at count rows more row
 
 -- a shown cell is free of effect, where `row_of` is the row of each cell
-abbrev pub ShownIsFree : (ℕ → ℕ → ℕ) → ℕ → ℕ → ℕ → Type 0
-ShownIsFree at count rows cells = (row_of : ℕ → ℕ) → ((c r : ℕ) → c < count → r < rows → row_of (at c r) ≡ r) →
-    (known : List (Option Entry)) → length known ≡ cells →
+abbrev pub ShownIsFree : (ℕ → ℕ → ℕ) → (ℕ → ℕ) → ℕ → ℕ → ℕ → Type 0
+ShownIsFree at row_of count rows cells = (known : List (Option Entry)) → length known ≡ cells →
     (cell : ℕ) → IsShownRow at count rows known (row_of cell) → IsFreeOfEffect at row_of count rows known cell
 
 -- where each cell is known or shown, each two fillings have one result
-abbrev pub ClosedHasOneResult : (ℕ → ℕ → ℕ) → ℕ → ℕ → ℕ → Type 0
-ClosedHasOneResult at count rows cells = (row_of : ℕ → ℕ) → ((c r : ℕ) → c < count → r < rows → row_of (at c r) ≡ r) →
-    (known : List (Option Entry)) → length known ≡ cells →
+abbrev pub ClosedHasOneResult : (ℕ → ℕ → ℕ) → (ℕ → ℕ) → ℕ → ℕ → ℕ → Type 0
+ClosedHasOneResult at row_of count rows cells = (known : List (Option Entry)) → length known ≡ cells →
     ((k : ℕ) → k < cells → ((v : Entry) × (slice_index_or known k None ≡ Some v)) ⊎ IsShownRow at count rows known (row_of k)) →
     (full other : List Entry) → IsFilling known full → IsFilling known other → SameResult at row_of count rows full other

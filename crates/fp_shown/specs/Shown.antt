@@ -1,8 +1,7 @@
 -- Which columns of a grid are forced, and which cells are shown.
-use Rattle.std.specs.Prelude.{◌<◌, ℕ, List, [], length, slice_index_or, Option}
+use Rattle.std.specs.Prelude.{ℕ, List, [], length, slice_index_or, Option}
 use Rattle.fp_order.specs.declared.entry.Entry.{Entry}
 use Rattle.fp_order.specs.declared.grid.Grid.{Grid}
-use Rattle.fp_order.specs.declared.grid.Cell.{Cell}
 use Rattle.fp_order.specs.Grid.{columns_of, cell_on, cells_of}
 use Rattle.fp_order.specs.Numbers.{number_of}
 use Rattle.fp_shown.specs.Fillings.{IsForced, IsShownRow}
@@ -24,5 +23,5 @@ abbrev pub IsRowShown : Grid → List (Option Entry) → ℕ → Type 0
 IsRowShown g known row = IsShownRow (number_on g) (length (columns_of g.functions)) (length g.rows) known row
 
 -- the row of the cell is decided by the forced columns in every filling
-abbrev pub IsShown : Grid → List (Option Entry) → ℕ → Type 0
+unfoldable pub IsShown : Grid → List (Option Entry) → ℕ → Type 0
 IsShown g known k = IsRowShown g known (row_of g k)

@@ -3,9 +3,15 @@
 #![tactic(auto)]
 
 mod kind;
+mod laws;
+mod machine;
 mod partial;
 mod search;
+mod state;
 mod table;
 
+pub use laws::{closed_has_one_result, shown_free, shown_stays};
+pub use machine::Machine;
 pub use partial::Partial;
 pub use search::{forced, shown};
+pub use state::{CellState, Event};

@@ -1,4 +1,4 @@
-use Rattle.std.proofs.Common.{◌≡◌, ◌∙◌, ap, sym, append-nil, rules}
+use Rattle.std.proofs.Common.{◌≡◌, ◌∙◌, ap, sym, append-nil}
 use Rattle.fp_order.specs.Grid.{cell_on}
 use Rattle.fp_order.specs.Numbers.{number_of}
 use Rattle.fp_shown.proofs.Flat.{numbers_more}

@@ -1,4 +1,4 @@
-use Rattle.std.proofs.Common.{◌≡◌, ◌++◌, List, ℕ, ◌∙◌, sym, subst, map, length}
+use Rattle.std.proofs.Common.{List, ℕ, ◌∙◌, sym, subst, map, length}
 use Rattle.std.proofs.lemmas.List.Elements.{All-same, All-get_or}
 use Rattle.fp_order.specs.Grid.{IsColumn, below, cell_on, columns_of}
 use Rattle.fp_order.specs.Numbers.{number_of}
