@@ -1,0 +1,77 @@
+-- Events that are played one after another, and what a board shows.
+use Rattle.std.proofs.Common.{◌≡◌, ◌⊎◌, ◌<◌, ◌+◌, ℕ, List, [], ◌∷◌, ◌++◌, take, length, get_or, arith, inl, inr, sym, ◌∙◌, ap, subst, Bool, true, Option, Some, None, add-one}
+use Rattle.std.proofs.Math.Seq.{take-suc}
+use Rattle.std.proofs.lemmas.List.{length-map}
+use Rattle.fp_order.specs.declared.entry.Entry.{Entry}
+use Rattle.fp_order.specs.declared.grid.Grid.{Grid}
+use Rattle.fp_order.specs.Grid.{cells_of, columns_of}
+use Rattle.fp_shown.specs.declared.state.CellState.{CellState}
+use Rattle.fp_shown.specs.declared.state.CellState.TheVariants.{Free, Claimed, Settled, Cancelled}
+use Rattle.fp_shown.specs.declared.state.Event.{Event}
+use Rattle.fp_shown.specs.Fillings.{IsFilling}
+use Rattle.fp_shown.specs.Shown.{number_on, row_of, IsShown, IsRowShown}
+use Rattle.fp_shown.specs.Machine.{state_at, settled_of, settled, Board, IsAllowed, after, IsBoard, Plays, none, more, Steps, CancelledAreFree, ClosedHasResult}
+use Rattle.fp_shown.proofs.Boards.{settled_at}
+use Rattle.fp_shown.proofs.Inside.{inside_grid, placed}
+use Rattle.fp_shown.proofs.Effect as effect
+
+pub plays_more : (g : Grid) (v : List Entry) (first last : List CellState) (events : List Event) (event : Event) → Plays g v first events last → IsAllowed g v last event →
+    Plays g v first (events ++ event ∷ []) (after last event)
+plays_more g v first last events event (none states) h = more states event [] (after states event) h (none (after states event))
+plays_more g v first last events event (more states e rest end now later) h =
+    more states e (rest ++ event ∷ []) (after end event) now (plays_more g v (after states e) end rest event later h)
+
+plays_next : (g : Grid) (v : List Entry) (first last : List CellState) (events : List Event) (n : ℕ) (event : Event) → n < length events → event ≡ get_or events n event →
+    Plays g v first (take n events) last → IsAllowed g v last event → Plays g v first (take (n + 1) events) (after last event)
+plays_next g v first last events n event l at p h =
+    let t : take (n + 1) events ≡ take n events ++ event ∷ [] = rw add-one (take-suc events n event l ∙ ap (λ (x : Event). take n events ++ x ∷ []) (sym at)) in
+    subst (λ (x : List Event). Plays g v first x (after last event)) (sym t) (plays_more g v first last (take n events) event p h)
+
+-- one event more was allowed and done
+pub played_more : (first now new : Board) (event : Event) (done : Bool) (events : List Event) (n : ℕ) → Steps now event new done → done ≡ true →
+    now.grid ≡ first.grid → now.verdicts ≡ first.verdicts → Plays first.grid first.verdicts first.states (take n events) now.states → n < length events → event ≡ get_or events n event →
+    (new.grid ≡ first.grid) × (new.verdicts ≡ first.verdicts) × Plays first.grid first.verdicts first.states (take (n + 1) events) new.states
+played_more first now new event done events n steps done_now grid verdicts plays l at =
+    let S : Bool → Type 0 = λ b. Steps now event new b in
+    let s = subst S done_now steps in
+    let G : Grid → Type 0 = λ g. IsAllowed g now.verdicts now.states event in
+    let V : List Entry → Type 0 = λ v. IsAllowed first.grid v now.states event in
+    let allowed = subst V verdicts (subst G grid s.0) in
+    let P : List CellState → Type 0 = λ t. Plays first.grid first.verdicts first.states (take (n + 1) events) t in
+    let made = plays_next first.grid first.verdicts first.states now.states events n event l at plays allowed in
+    (ap (λ (b : Board). b.grid) s.1 ∙ grid, ap (λ (b : Board). b.verdicts) s.1 ∙ verdicts, subst P (sym (ap (λ (b : Board). b.states) s.1)) made)
+
+settled_some : (s : CellState) (v : Entry) → settled_of s ≡ Some v → s ≡ Settled v
+settled_some Free v h = cc
+settled_some (Claimed w) v h = cc
+settled_some (Settled x) v h = cc
+settled_some Cancelled v h = cc
+
+-- the full matrix is a filling of the settled cells
+pub fills_own : (g : Grid) (verdicts : List Entry) (states : List CellState) → IsBoard g verdicts states → IsFilling (settled states) verdicts
+fills_own g verdicts states b = record {
+  len = b.full ∙ (sym b.len ∙ sym (length-map states settled_of));
+  agrees = λ k v h. sym (b.entries k v (settled_some (state_at states k) v (sym (settled_at states k) ∙ h)));
+}
+
+row_shown : (g : Grid) (known : List (Option Entry)) (k : ℕ) → IsShown g known k → IsRowShown g known (row_of g k)
+unfolding IsShown
+row_shown g known k w = w
+
+pub cancelled_free : (b : Board) → IsBoard b.grid b.verdicts b.states → CancelledAreFree b
+cancelled_free b h k l s =
+    let g = b.grid in
+    effect.shown_free (number_on g) (row_of g) (length (columns_of g.functions)) (length g.rows) (settled b.states)
+    (inside_grid g (settled b.states) h.right (length-map b.states settled_of ∙ h.len)) (λ c r m n. placed g c r h.right m n) k (row_shown g (settled b.states) k (h.shown k l s))
+
+pub closed_result : (b : Board) → IsBoard b.grid b.verdicts b.states → ClosedHasResult b
+closed_result b h closed full fills =
+    let g = b.grid in
+    let len = length-map b.states settled_of ∙ h.len in
+    effect.closed_one (number_on g) (row_of g) (length (columns_of g.functions)) (length g.rows) (length (cells_of g)) (λ known l. inside_grid g known h.right l) (λ c r m n. placed g c r h.right m n)
+    (settled b.states) len known_or_shown b.verdicts full (fills_own g b.verdicts b.states h) fills where
+      known_or_shown : (k : ℕ) → k < length (cells_of b.grid) → ((v : Entry) × (get_or (settled b.states) k None ≡ Some v)) ⊎ IsRowShown b.grid (settled b.states) (row_of b.grid k)
+      known_or_shown k l = let m : k < length b.states = omega (arith, l, h.len) in elim (closed k m) [
+        | inl t ↦ inl (t.0, settled_at b.states k ∙ ap settled_of t.1)
+        | inr s ↦ inr (row_shown b.grid (settled b.states) k (h.shown k m s))
+      ]

@@ -1,0 +1,4 @@
+pub mod Fillings
+pub mod Known
+pub mod Shown
+pub mod Machine

@@ -1,0 +1,17 @@
+//! Columns that are forced and cells that are shown by what is known of a descent matrix, and the machine that
+//! settles and cancels its cells.
+#![tactic(auto)]
+
+mod kind;
+mod laws;
+mod machine;
+mod partial;
+mod search;
+mod state;
+mod table;
+
+pub use laws::{closed_has_one_result, shown_free, shown_stays};
+pub use machine::Machine;
+pub use partial::Partial;
+pub use search::{forced, shown};
+pub use state::{CellState, Event};

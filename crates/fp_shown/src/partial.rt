@@ -1,0 +1,9 @@
+//! Partial matrices.
+
+use fp_order::{Entry, Items};
+
+/// What is known of each cell, in the order of the cells.
+#[derive(Drop)]
+pub struct Partial {
+    pub known: Items<Option<Entry>>,
+}
