@@ -10,7 +10,7 @@ use Rattle.fp_term.specs.Terms.{Tm}
 use Rattle.fp_rewriting.specs.declared.rule.Rule.{Rule}
 use Rattle.fp_rewriting.specs.Candidates.{head_constant, is_head, with_head, with_head_of, AreHeaded}
 use Rattle.fp_rewriting.specs.Index.{Tree, tip, fork, sought, with_rule, with_rule_of, with_rules, Indexed}
-use Rattle.fp_rewriting.specs.Reading.{read, is_rewriting, rule_of}
+use Rattle.fp_rewriting.specs.Reading.{is_rewriting}
 use Rattle.fp_rewriting.specs.Stated.{IsStated}
 
 append_nothing : (rs : List Rule) → rs ++ [] ≡ rs
@@ -72,23 +72,12 @@ found_all : (rs : List Rule) (t : Tree) (n : List ℕ) → sought (name_hash n) 
 found_all [] t n = sym (append_nothing (sought (name_hash n) n t))
 found_all (r ∷ rs) t n = found_all rs (with_rule_of (head_constant r.lhs) r t) n ∙ one_more r t n (with_head n rs) (head_constant r.lhs)
 
-headed_by : (b : Bool) (q r : Rule) → is_rewriting q ≡ b → cond b (Some q) None ≡ Some r → is_some (head_constant r.lhs) ≡ true
-headed_by true q r e f = let same : q ≡ r = cc in by_head (is_some (head_constant q.lhs)) refl
-  where
-    by_head : (c : Bool) → is_some (head_constant q.lhs) ≡ c → is_some (head_constant r.lhs) ≡ true
-    by_head true g = let same : q ≡ r = cc in rw (← same) g
-    by_head false g = let h : false ≡ true = rw g at e in cc
-headed_by false q r e f = cc
-
 headed : (r : Rule) → IsStated r → is_some (head_constant r.lhs) ≡ true
-headed r h = headed_by (is_rewriting (read h.name h.concl)) (read h.name h.concl) r refl h.is
-
--- what is read is stated, where it is a rule
-pub stated : (name : List ℕ) (t : Tm) (r : Rule) → r ≡ read name t → is_rewriting r ≡ true → IsStated r
-stated name t r e h =
-    let f : is_rewriting (read name t) ≡ true = rw e at h in
-    let g : rule_of name t ≡ Some (read name t) = rw f refl in
-    record { name = name; concl = t; is = g ∙ ap Some (sym e) }
+headed r h = by_head (is_some (head_constant r.lhs)) refl
+  where
+    by_head : (c : Bool) → is_some (head_constant r.lhs) ≡ c → is_some (head_constant r.lhs) ≡ true
+    by_head true g = g
+    by_head false g = let e : is_rewriting r ≡ true = h in let f : false ≡ true = rw g at e in cc
 
 all_headed : (rs : List Rule) → All IsStated rs → AreHeaded rs
 all_headed [] h = tt

@@ -1,11 +1,8 @@
--- Rules that conclusions state.
-use Rattle.std.specs.Prelude.{◌≡◌, ℕ, List, Some}
-use Rattle.fp_term.specs.Terms.{Tm}
+-- Rules of the form that conclusions state.
+use Rattle.std.specs.Prelude.{◌≡◌, true}
 use Rattle.fp_rewriting.specs.declared.rule.Rule.{Rule}
-use Rattle.fp_rewriting.specs.Reading.{rule_of}
+use Rattle.fp_rewriting.specs.Reading.{is_rewriting}
 
--- the rule is one that some conclusion states
-pub record IsStated (r : Rule) : Type 0 where
-  pub name : List ℕ
-  pub concl : Tm
-  pub is : rule_of name concl ≡ Some r
+-- a constant stands at the head of the rule's left side, and all its variables and type variables occur there
+abbrev pub IsStated : Rule → Type 0
+IsStated r = is_rewriting r ≡ true

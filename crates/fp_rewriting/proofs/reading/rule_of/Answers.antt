@@ -1,7 +1,5 @@
 use Rattle.std.proofs.Common.{sym, ◌∙◌}
-use Rattle.fp_rewriting.proofs.Indexed.{stated}
 use Rattle.fp_rewriting.proofs.reading.rule_of.Goals as goal
 
 pub returns-then-is_rewriting-clause-stated : goal.returns-then-is_rewriting-clause-stated
-returns-then-is_rewriting-clause-stated c =
-    stated c.args.name.now c.args.concl.now c.in_ok-rule.rule c.in_ok-rule.ensures (sym c.is_rewriting.ensures ∙ c.if-is_rewriting.true)
+returns-then-is_rewriting-clause-stated c = sym c.is_rewriting.ensures ∙ c.if-is_rewriting.true
