@@ -4,16 +4,16 @@ use Rattle.std.specs.Prelude.{Option, Some, None, MatchOption, MatchBool, is_som
 use Rattle.std.specs.Str.{bytes_eq}
 use Rattle.std.proofs.lemmas.List.{drop_more}
 use Rattle.std.proofs.lemmas.Slice.Eq.{bytes_eq-Decides}
-use Rattle.fp_term.specs.Types.{Typ, variable, found_type}
+use Rattle.fp_term.specs.Types.{Typ, variable}
 use Rattle.fp_term.specs.Variables.{is_among}
-use Rattle.fp_constrain.specs.Declarations.{Declared, exactly, instances, Declarations}
+use Rattle.fp_constrain.specs.Declarations.{Declared, Declarations}
 use Rattle.fp_raw.specs.Raws.{RawTyp, RawTm, raw_name, raw_bound, raw_free, raw_constant, raw_app, raw_abs, raw_typed, raw_size}
 use Rattle.fp_constrain.specs.Rules.{Scope, innermost, NameHas, IsWritten, Has}
 use Rattle.fp_unify.specs.Facts.{Solves, AreAbout, Unsolvable}
 use Rattle.fp_constrain.specs.Draws.{number_among, types_of, typing, Draws}
 use Rattle.fp_unify.specs.Solved.{IsSolution}
 use Rattle.fp_unify.specs.General.{IsBest}
-use Rattle.fp_constrain.specs.Clash.{Gives, IsWanted, IsTyping, Satisfiable, Clashes, Solvable, Traces, Covers, CoversAll, Collects, CollectsAll, Further, Fixes, Wants, FirstUnsolvable}
+use Rattle.fp_constrain.specs.Clash.{Gives, IsWanted, Satisfiable, Clashes, Solvable, Traces, Covers, CoversAll, Collects, CollectsAll, Fixes, Wants, FirstUnsolvable}
 use Rattle.fp_constrain.specs.Subterms.{top, plain_option}
 use Rattle.fp_constrain.specs.Drafts.{Lays}
 use Rattle.fp_constrain.proofs.Laid.{known_push, solves_push, solves_pushed, grows_trans, grows_none}

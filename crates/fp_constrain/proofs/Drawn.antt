@@ -8,7 +8,7 @@ use Rattle.std.proofs.Math.Path.{fun_ext}
 use Rattle.fp_constrain.proofs.Choices.{chosen}
 use Rattle.std.proofs.lemmas.Option.{none-some, same_Some}
 use Rattle.fp_term.specs.Names.{function}
-use Rattle.fp_term.specs.Types.{Typ, Typs, variable, applied, none, more, found_type, retyped, all_retyped, IsInstance}
+use Rattle.fp_term.specs.Types.{Typ, Typs, variable, applied, none, more, found_type, retyped, all_retyped}
 use Rattle.fp_constrain.specs.Declarations.{Declared, exactly, instances, IsDeclared, declarations, Declarations}
 use Rattle.fp_term.specs.declared.signature.Signature.{Signature}
 use Rattle.fp_raw.specs.Raws.{RawTyp, RawTm, raw_name, raw_bound, raw_free, raw_constant, raw_app, raw_abs, raw_typed, raw_size}
@@ -16,7 +16,7 @@ use Rattle.fp_constrain.specs.Subterms.{top, plain, plain_option}
 use Rattle.fp_constrain.specs.Rules.{Scope, is_named, innermost, NameHas, ConstantHas, BoundHas, IsWritten, Has}
 use Rattle.fp_unify.specs.Facts.{IsAbout, AreAbout}
 use Rattle.fp_constrain.specs.Drafts.{Grows, Lays, Leaf, WithWritten, IsKnownType, IsKnownOption, IsKnownDeclared}
-use Rattle.fp_constrain.specs.Draws.{HasFunctions, IsKnownTerm, number_among, types_of, Binders, scope_types, BindersBelow, innermost_number, typing, Sees, Draws, Binds}
+use Rattle.fp_constrain.specs.Draws.{IsKnownTerm, number_among, types_of, Binders, scope_types, BindersBelow, innermost_number, typing, Sees, Draws, Binds}
 use Rattle.fp_unify.specs.declared.fact.Fact.{Fact}
 use Rattle.fp_unify.specs.declared.fact.Fact.TheVariants.{IsCon, Same, Never}
 use Rattle.std.proofs.lemmas.List.{get_or_append_left, get_or_push}

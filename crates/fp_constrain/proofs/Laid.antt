@@ -1,11 +1,11 @@
 -- Equations that were added, and types that meet them.
-use Rattle.std.proofs.Common.{◌≡◌, ◌∙◌, ◌<◌, ◌≤◌, ◌+◌, ℕ, true, false, cond, List, [], ◌∷◌, ◌++◌, length, refl, sym, ap, arith, append_assoc, append-nil}
+use Rattle.std.proofs.Common.{◌≡◌, ◌∙◌, ◌<◌, ◌≤◌, ◌+◌, ℕ, true, false, cond, List, [], ◌∷◌, ◌++◌, refl, sym, ap, arith, append_assoc, append-nil}
 use Rattle.std.specs.Prelude.{Some, None}
 use Rattle.std.specs.Option.{option_map}
 use Rattle.std.specs.Str.{bytes_eq}
 use Rattle.std.proofs.lemmas.Option.{none-some, same_Some}
 use Rattle.fp_constrain.proofs.Choices.{chosen}
-use Rattle.fp_term.specs.Types.{Typ, Typs, variable, applied, none, more, found_type, type_or, count, all_retyped}
+use Rattle.fp_term.specs.Types.{Typ, Typs, variable, applied, none, more, found_type, type_or, all_retyped}
 use Rattle.fp_term.specs.declared.signature.Signature.{Signature}
 use Rattle.fp_unify.specs.Facts.{types_at, Holds, Solves, AllBelow, IsAbout, AreAbout, IsKnown, AreKnown}
 use Rattle.fp_constrain.specs.Drafts.{found_number, table_types, TableBelow, Grows, Lays, LaysAll}

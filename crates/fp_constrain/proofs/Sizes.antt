@@ -1,5 +1,5 @@
 -- A list of written types is larger than what follows its first one.
-use Rattle.std.proofs.Common.{◌<◌, ◌≤◌, ◌-◌, ◌+◌, ℕ, zero, suc, List, [], ◌∷◌, length, take, drop, arith}
+use Rattle.std.proofs.Common.{◌<◌, ◌≤◌, ℕ, zero, suc, List, [], ◌∷◌, length, take, drop, arith}
 use Rattle.fp_raw.specs.Raws.{RawTyp, raw_variable, raw_applied, arguments, raw_type_size, raw_types_size}
 
 some_size : (t : RawTyp) → 0 < raw_type_size t

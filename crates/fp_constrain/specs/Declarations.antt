@@ -1,6 +1,5 @@
 -- What constants are declared as.
 use Rattle.std.specs.Prelude.{◌≡◌, ℕ, List, Option, Some, None}
-use Rattle.std.specs.Option.{option_map}
 use Rattle.fp_term.specs.Types.{Typ, found_type, IsInstance}
 use Rattle.fp_term.specs.declared.signature.Signature.{Signature}
 

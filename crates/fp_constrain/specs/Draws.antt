@@ -5,7 +5,7 @@ use Rattle.fp_term.specs.Names.{function}
 use Rattle.fp_term.specs.Types.{Typ}
 use Rattle.fp_term.specs.Signatures.{arity_of}
 use Rattle.fp_term.specs.declared.signature.Signature.{Signature}
-use Rattle.fp_constrain.specs.Declarations.{Declared, exactly, instances, Declarations}
+use Rattle.fp_constrain.specs.Declarations.{Declarations}
 use Rattle.fp_raw.specs.Raws.{RawTm, raw_name, raw_bound, raw_free, raw_constant, raw_app, raw_abs, raw_typed, raw_size}
 use Rattle.fp_constrain.specs.Subterms.{top, plain, plain_option}
 use Rattle.fp_constrain.specs.Rules.{Scope, is_named, IsWritten, Has}

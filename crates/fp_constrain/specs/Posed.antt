@@ -3,7 +3,7 @@ use Rattle.std.specs.Prelude.{ℕ, List}
 use Rattle.std.specs.Option.{option_copied}
 use Rattle.fp_unify.specs.declared.fact.Fact.{Fact}
 use Rattle.fp_constrain.specs.Binding.{declared_in}
-use Rattle.fp_constrain.specs.Clash.{Traces, Clashes, Satisfiable, IsTyping}
+use Rattle.fp_constrain.specs.Clash.{Traces}
 use Rattle.fp_constrain.specs.declared.clash.Question.{Question}
 
 abbrev pub Poses : Question → ℕ → List ℕ → List (ℕ × Fact) → Type 0

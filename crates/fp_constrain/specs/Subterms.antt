@@ -1,5 +1,5 @@
 -- The subterms of a written term, by their numbers in post-order, and its written types.
-use Rattle.std.specs.Prelude.{ℕ, ◌+◌, ◌-◌, ◌<◌, if◌then◌else◌, nat_lt, List, Option, Some, None}
+use Rattle.std.specs.Prelude.{ℕ, ◌+◌, Option, Some, None}
 use Rattle.fp_term.specs.Types.{Typ, Typs, variable, applied, none, more}
 use Rattle.fp_raw.specs.Raws.{RawTyp, RawTyps, raw_variable, raw_applied, raw_none, raw_more, RawTm, raw_name, raw_bound, raw_free, raw_constant, raw_app, raw_abs, raw_typed, raw_size}
 

@@ -1,6 +1,6 @@
 -- Names for the types of which nothing is known.
 use Rattle.std.proofs.Common.{◌≡◌, ◌∙◌, ℕ, zero, suc, ◌+◌, ◌-◌, ◌/◌, ◌%◌, ◌^◌, ◌<◌, ◌≤◌, ◌==◌, Bool, true, false, cond, ◌||◌, List, [], ◌∷◌, ◌++◌, length, drop, get_or, refl, sym, ap, arith}
-use Rattle.std.specs.Prelude.{Option, Some, None, nat_lt}
+use Rattle.std.specs.Prelude.{Some, None, nat_lt}
 use Rattle.std.specs.Str.{bytes_eq}
 use Rattle.std.specs.Fmt.{decimal}
 use Rattle.std.proofs.lemmas.Bool.Decides.{nat_tests, Decides-eqb, Decides-ltb}
@@ -16,13 +16,13 @@ use Rattle.std.specs.Int.{IsInRange}
 use Rattle.std.proofs.lemmas.Str.Parse.{IsDigitsTest, numerals_by_value}
 use Rattle.fp_term.specs.Names.{is_name, is_start_byte, is_part_byte}
 use Rattle.fp_unify.specs.Facts.{types_at, AllBelow}
-use Rattle.fp_unify.specs.Cells.{cell, Fits, IsFine, AreFine}
+use Rattle.fp_unify.specs.Cells.{cell, Fits, AreFine}
 use Rattle.fp_unify.specs.Settled.{Determines}
-use Rattle.fp_unify.specs.Nodes.{type_nodes, types_nodes, Single}
+use Rattle.fp_unify.specs.Nodes.{type_nodes, types_nodes}
 use Rattle.fp_unify.specs.Candidates.{candidate, fresh_before, with_unwritten}
 use Rattle.fp_unify.specs.Naming.{Pairs, name_of, names_of, Agrees, AreOwn, IsNamer, AreWritten, Within, AreWithin, Shows, ShowsAll, listed, Showing}
 use Rattle.fp_unify.specs.declared.table.Shape.{Shape}
-use Rattle.fp_unify.specs.declared.table.Shape.TheVariants.{Open, Link, Var, Con}
+use Rattle.fp_unify.specs.declared.table.Shape.TheVariants.{Open, Var, Con}
 
 -- no two candidates are equal
 same_round : (a b : Bool) (m n : ℕ) → (m == 0) ≡ a → (n == 0) ≡ b → m < 2 ^ 64 → n < 2 ^ 64 → cond a [] (decimal m) ≡ cond b [] (decimal n) → m ≡ n

@@ -1,5 +1,5 @@
 -- What the types of a table look like once those of which nothing is known have names.
-use Rattle.std.specs.Prelude.{◌≡◌, ◌≤◌, ◌==◌, ℕ, true, if◌then◌else◌, List, [], ◌∷◌, ◌++◌, Option, Some, None}
+use Rattle.std.specs.Prelude.{◌≡◌, ◌≤◌, ◌==◌, ℕ, true, if◌then◌else◌, List, [], ◌∷◌, Option, Some, None}
 use Rattle.fp_term.specs.Types.{Typ, Typs, variable, none, more}
 use Rattle.fp_term.specs.Variables.{is_among, type_names, all_type_names}
 use Rattle.fp_unify.specs.Facts.{types_at}

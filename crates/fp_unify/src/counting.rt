@@ -1,3 +1,5 @@
+//! The nodes of a type, counted up to a room.
+
 ghost use Rattle.std.specs.Prelude.{◌≡◌, ℕ, ◌<◌, ◌≤◌, length, MatchOption};
 ghost use Rattle.fp_term.specs.Types.{Typ};
 ghost use Rattle.fp_unify.specs.Facts.{AllBelow, types_at};

@@ -1,3 +1,5 @@
+//! Making two types of a table one, as far as their forms go.
+
 ghost use Rattle.std.specs.Prelude.{◌≡◌, ◌<◌, ◌++◌, [], ◌∷◌, true, false, length, slice_set, IfOk, MatchBool, MatchOption};
 ghost use Rattle.fp_unify.specs.declared.table.Shape.TheVariants.{Link};
 ghost use Rattle.fp_unify.specs.Cells.{cell, IsFine, AreFine, IsRoot, IsFormed, pairs, needed, is_open, AreInside, Apart, AllApart, Turns, Reaches, Takes, Against};

@@ -1,3 +1,5 @@
+//! The types of a table, with names for those of which nothing is known, in order of first occurrence.
+
 ghost use Rattle.std.specs.Prelude.{◌≡◌, ◌<◌, ◌+◌, ◌++◌, [], ◌∷◌, false, length, IfOk};
 ghost use Rattle.std.specs.Option.{option_copied};
 ghost use Rattle.fp_term.specs.Types.{none, variable};

@@ -1,3 +1,5 @@
+//! The table that says what equations say, and holds their most general solution.
+
 ghost use Rattle.std.specs.Prelude.{◌≡◌, [], length, IfOk, MatchBool, MatchOption};
 ghost use Rattle.fp_unify.specs.declared.table.Shape.TheVariants.{Con};
 ghost use Rattle.fp_unify.specs.Cells.{AreFine};

@@ -1,3 +1,5 @@
+//! What is known of numbered types: a table with a cell for each.
+
 ghost use Rattle.std.specs.Prelude.{◌≡◌, ℕ, ◌≤◌, ◌<◌, length};
 ghost use Rattle.fp_term.specs.Types.{Typ};
 ghost use Rattle.fp_unify.specs.Cells.{cell, Fits, AreFine, IsRoot};

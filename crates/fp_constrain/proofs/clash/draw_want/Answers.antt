@@ -1,4 +1,4 @@
-use Rattle.std.proofs.Common.{ap, refl, ◌∙◌}
+use Rattle.std.proofs.Common.{ap, refl}
 use Rattle.std.specs.Option.{option_copied}
 use Rattle.fp_constrain.proofs.Clashing.{wants_none, wants_never, wants_type, wants_at, is_unknown, is_known}
 use Rattle.fp_constrain.proofs.clash.draw_want.Goals as goal

@@ -1,4 +1,4 @@
-use Rattle.std.proofs.Common.{arith, ◌∙◌, ◌≡◌, ◌<◌, length, refl}
+use Rattle.std.proofs.Common.{arith, ◌≡◌, refl}
 use Rattle.fp_raw.specs.Raws.{raw_size}
 use Rattle.fp_constrain.proofs.Clashing.{traces, wants_at}
 use Rattle.fp_constrain.proofs.clash.equations_over.Goals as goal

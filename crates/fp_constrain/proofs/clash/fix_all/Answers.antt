@@ -1,4 +1,4 @@
-use Rattle.std.proofs.Common.{arith, ◌∙◌}
+use Rattle.std.proofs.Common.{◌∙◌}
 use Rattle.fp_constrain.proofs.Clashing.{fixes_at}
 use Rattle.fp_constrain.proofs.clash.fix_all.Goals as goal
 

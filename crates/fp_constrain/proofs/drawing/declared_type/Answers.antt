@@ -1,6 +1,6 @@
 use Rattle.std.proofs.Common.{sym}
 use Rattle.fp_constrain.specs.Declarations.{exactly, instances}
-use Rattle.fp_constrain.proofs.Drawn.{declared_exact, declared_generic, declared_not}
+use Rattle.fp_constrain.proofs.Drawn.{declared_exact, declared_generic}
 use Rattle.fp_constrain.proofs.drawing.declared_type.Goals as goal
 
 pub returns-in-Some-clause-finds : goal.returns-in-Some-clause-finds

@@ -1,4 +1,4 @@
-use Rattle.std.proofs.Common.{◌≡◌, ◌+◌, ◌*◌, length, drop}
+use Rattle.std.proofs.Common.{◌+◌, ◌*◌, length, drop}
 use Rattle.fp_unify.specs.Facts.{AllBelow}
 use Rattle.fp_unify.specs.Naming.{AreWithin, IsNamer, Showing}
 use Rattle.fp_unify.proofs.naming.+show.Given as goal

@@ -1,4 +1,3 @@
-use Rattle.std.proofs.lemmas.List.{drop_more}
 use Rattle.fp_unify.proofs.Ordered.{going_settled, going_left, going_read}
 use Rattle.fp_unify.proofs.settling.settle_round.Goals as goal
 use Rattle.fp_unify.proofs.settling.settle_round.Goals.{then-not-settle_one+in_ok-push, else-not-settle_one}
