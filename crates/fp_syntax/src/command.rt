@@ -1,0 +1,77 @@
+//! Commands as they are written.
+use fp_raw::{Raw, RawType};
+use fp_term::Name;
+
+/// An argument of a proof line.
+#[derive(Drop)]
+pub enum Arg {
+    Number(u32),
+    Name(Name),
+    /// A type variable, without its apostrophe.
+    TyVar(Name),
+    Term(Raw),
+    Ty(RawType),
+}
+
+/// A proof line.
+#[derive(Drop)]
+pub struct Line {
+    pub name: Name,
+    pub args: Vec<Arg>,
+}
+
+/// A function of a group with its written type.
+#[derive(Drop)]
+pub struct Head {
+    pub name: Name,
+    pub ty: RawType,
+}
+
+/// What a command says.
+#[derive(Drop)]
+pub enum Body {
+    Definition {
+        name: Name,
+        term: Raw,
+    },
+    Typedef {
+        name: Name,
+        abs: Name,
+        rep: Name,
+        fact: Name,
+    },
+    Lemma {
+        name: Name,
+        statement: Raw,
+        lines: Vec<Line>,
+    },
+    Simp(Name),
+    Cong(Name),
+    Constructors {
+        ty: Name,
+        cons: Vec<Name>,
+    },
+    Size {
+        ty: RawType,
+        term: Raw,
+    },
+    Measure {
+        ty: RawType,
+        term: Raw,
+    },
+    Fun {
+        heads: Vec<Head>,
+        clauses: Vec<Raw>,
+    },
+    Function {
+        heads: Vec<Head>,
+        clauses: Vec<Raw>,
+    },
+}
+
+/// A command, and the byte at which it begins.
+#[derive(Drop)]
+pub struct Command {
+    pub at: u32,
+    pub body: Body,
+}
