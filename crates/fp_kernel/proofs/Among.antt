@@ -1,5 +1,5 @@
 -- The promises of two lists are among their union, and a promise is met by its proof.
-use Rattle.std.proofs.Common.{◌≡◌, ℕ, Bool, true, false, cond, not, ◌&&◌, ◌||◌, ◌==◌, List, [], ◌∷◌, ◌++◌, refl as same_path}
+use Rattle.std.proofs.Common.{◌≡◌, ℕ, Bool, true, false, cond, not, ◌&&◌, ◌||◌, ◌==◌, List, [], ◌∷◌, ◌++◌, length, refl as same_path}
 use Rattle.std.proofs.lemmas.Bool.Decides.{Decides-eqb}
 use Rattle.fp_term.specs.Terms.{Tm, term_eq}
 use Rattle.fp_term.proofs.Equal.{term_eq-decides}

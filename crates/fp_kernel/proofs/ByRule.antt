@@ -1,6 +1,7 @@
 -- Each step of a derivation is what the rule of its name gives on the conclusions before it.
 use Rattle.std.proofs.Common.{◌≡◌, ℕ, List, [], ◌∷◌, refl as same_path}
 use Rattle.std.specs.Prelude.{None}
+use Rattle.fp_term.specs.Names.{function}
 use Rattle.fp_term.specs.Types.{Typ}
 use Rattle.fp_term.specs.Terms.{Tm, app, abs, opened, closed, replaced, retyped_term}
 use Rattle.fp_term.specs.Typing.{function_type}

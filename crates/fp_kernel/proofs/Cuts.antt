@@ -2,9 +2,10 @@
 use Rattle.std.proofs.Common.{◌≡◌, ℕ, Bool, true, false, ◌&&◌, ◌==◌, List, [], ◌∷◌, length, refl as same_path, ap, subst, arith}
 use Rattle.std.proofs.lemmas.Bool.Decides.{Decides-eqb}
 use Rattle.fp_term.specs.Terms.{Tm}
-use Rattle.fp_kernel.specs.Definitions.{Def}
-use Rattle.fp_kernel.specs.Derivability.{Derives, promise_of}
-use Rattle.fp_kernel.specs.Theorems.{Theorem, IsTheorem, promised, promise_union, without_promise}
+use Rattle.fp_kernel.specs.Definitions.{Def, Within}
+use Rattle.fp_kernel.specs.Start.{signature_of}
+use Rattle.fp_kernel.specs.Derivability.{IsIn, IsFormula, Derives, promise_of}
+use Rattle.fp_kernel.specs.Theorems.{Theorem, IsTheorem, promised, promise_union, without_promise, fulfils, fulfilled}
 use Rattle.fp_kernel.specs.Known.{CanCut}
 use Rattle.fp_kernel.proofs.Later.{later_all, met_all}
 use Rattle.fp_kernel.proofs.Among.{first_promises, second_promises, that_or_kept}

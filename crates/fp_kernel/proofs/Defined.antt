@@ -1,5 +1,5 @@
 -- What `defining` makes is a new constant, each new constant is made, and its equation is a formula.
-use Rattle.std.proofs.Common.{◌≡◌, ℕ, List, [], ◌∷◌, refl, sym, subst}
+use Rattle.std.proofs.Common.{◌≡◌, ◌∙◌, ℕ, List, [], ◌∷◌, ◌++◌, refl, sym, subst}
 use Rattle.std.specs.Prelude.{Option, Some, None, Result, Ok, Err, IfErr}
 use Rattle.std.proofs.lemmas.Option.{none-some}
 use Rattle.fp_term.specs.Types.{Typ}

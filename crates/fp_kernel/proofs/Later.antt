@@ -7,7 +7,7 @@ use Rattle.fp_term.specs.Signatures.{IsWellTyped}
 use Rattle.fp_conclude.specs.Checks.{AreTerms, AreTypesOf}
 use Rattle.fp_kernel.specs.Definitions.{Def, Within, whole, newer}
 use Rattle.fp_kernel.specs.Start.{signature_of}
-use Rattle.fp_kernel.specs.Derivability.{IsIn, later, IsFormula}
+use Rattle.fp_kernel.specs.Derivability.{IsIn, first, later, IsFormula}
 use Rattle.fp_kernel.specs.Derivability.{Derives, refl, trans, mk_comb, lam, beta, assume, eq_mp, antisym, inst, inst_ty, axiom_of, connective_of, constant_of, abs_rep_of, rep_abs_of, promise_of, as_set}
 use Rattle.fp_kernel.proofs.Growing.{Grows, one_more, type_grows, over_grows}
 

@@ -1,5 +1,5 @@
 -- What `defining_type` gives is a new type, and what is said of a new type is derivable.
-use Rattle.std.proofs.Common.{◌≡◌, ◌∙◌, ℕ, Bool, true, false, cond, ◌&&◌, ◌==◌, List, [], ◌∷◌, length, refl, sym, ap, subst, arith}
+use Rattle.std.proofs.Common.{◌≡◌, ◌∙◌, ℕ, Bool, true, false, cond, ◌&&◌, ◌==◌, List, [], ◌∷◌, ◌++◌, length, refl, sym, ap, subst, arith}
 use Rattle.std.specs.Prelude.{Option, Some, None, codes}
 use Rattle.std.specs.Str.{bytes_eq}
 use Rattle.std.proofs.lemmas.Option.{none-some, same_Some}
@@ -8,7 +8,7 @@ use Rattle.fp_term.specs.declared.signature.Signature.{Signature}
 use Rattle.fp_term.specs.Types.{Typ, count}
 use Rattle.fp_term.specs.Terms.{Tm, bound, free, constant, app, abs}
 use Rattle.fp_term.specs.Typing.{type_under, function_type}
-use Rattle.fp_term.specs.Signatures.{first_of, arity_of, IsType, AreTypes, IsWellTyped}
+use Rattle.fp_term.specs.Signatures.{first_of, arity_of, IsType, AreTypes, IsConstant, IsWellTyped}
 use Rattle.fp_term.specs.Variables.{free_names, first_free_of, type_names_in}
 use Rattle.fp_term.specs.Types.{found_type}
 use Rattle.fp_term.proofs.Choices.{chosen}
@@ -22,7 +22,7 @@ use Rattle.fp_kernel.specs.Conservative.{IsNewType}
 use Rattle.fp_kernel.specs.Derivability.{first, IsFormula, Derives, abs_rep_of, rep_abs_of}
 use Rattle.fp_kernel.specs.Theorems.{Theorem, IsTheorem}
 use Rattle.fp_kernel.specs.Defining.{taken, first_taken, application_parts, is_unconditional, inhabited_parts, defining_type}
-use Rattle.fp_kernel.proofs.Growing.{found_new, found_second, arity_new, one_more, over_grows, own_instance}
+use Rattle.fp_kernel.proofs.Growing.{found_new, found_second, arity_new, one_more, over_grows, type_grows, own_instance}
 use Rattle.fp_kernel.proofs.Formulas.{fun_is, function_is, equation, both_formula, formula_of}
 use Rattle.fp_kernel.proofs.Later.{later_all}
 use Rattle.fp_kernel.proofs.Defined.{not_taken, none_beyond}

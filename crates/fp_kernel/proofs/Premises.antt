@@ -1,5 +1,5 @@
 -- The rules on theorems: each is over an older list of definitions, and the result has the promises of all.
-use Rattle.std.proofs.Common.{◌≡◌, ℕ, List, refl as same_path}
+use Rattle.std.proofs.Common.{◌≡◌, ℕ, ◌==◌, Bool, true, false, cond, List, [], refl as same_path}
 use Rattle.fp_term.specs.Types.{Typ}
 use Rattle.fp_term.specs.Terms.{Tm}
 use Rattle.fp_conclude.specs.Logic.{truth_type, equal}

@@ -1,5 +1,5 @@
 -- What is derived from premises that are known to have a rule's shape.
-use Rattle.std.proofs.Common.{◌≡◌, ◌∙◌, ℕ, List, [], refl as same_path, sym, subst}
+use Rattle.std.proofs.Common.{◌≡◌, ◌∙◌, ℕ, List, [], ◌∷◌, refl as same_path, sym, subst}
 use Rattle.std.specs.Prelude.{Some, Result, Ok, Err, IfOk}
 use Rattle.std.proofs.lemmas.Option.{same_Some}
 use Rattle.fp_term.specs.Types.{Typ}
@@ -10,7 +10,7 @@ use Rattle.fp_term.proofs.Typed.{app_parts, same_function}
 use Rattle.fp_conclude.specs.Logic.{truth_type, equal}
 use Rattle.fp_conclude.specs.Hypotheses.{union, all_replaced, all_retyped_terms}
 use Rattle.fp_conclude.specs.Parts.{function_parts}
-use Rattle.fp_conclude.specs.Shapes.{function_in, argument_in, body_in, binder_in, side_type, right, IsRedex}
+use Rattle.fp_conclude.specs.Shapes.{function_in, argument_in, body_in, binder_in, side_type, left, right, IsRedex}
 use Rattle.fp_conclude.specs.Known.{trans_concl, mk_comb_concl, lam_concl, reduct, beta_concl}
 use Rattle.fp_conclude.proofs.Equations.{function_shape}
 use Rattle.fp_kernel.specs.Definitions.{Def}

@@ -3,7 +3,7 @@ use Rattle.std.specs.Prelude.{◌≡◌, ℕ, Bool, ◌&&◌, ◌==◌, if◌the
 use Rattle.std.specs.Str.{bytes_eq}
 use Rattle.fp_term.specs.Types.{Typ, found_type}
 use Rattle.fp_term.specs.Terms.{Tm, constant, app}
-use Rattle.fp_term.specs.Variables.{first_free_of, hidden_of, type_names_in}
+use Rattle.fp_term.specs.Variables.{first_free_of, hidden_of, type_names_in, is_among}
 use Rattle.fp_term.specs.Signatures.{first_of, arity_of}
 use Rattle.fp_term.specs.declared.signature.Signature.{Signature}
 use Rattle.fp_term.specs.declared.typing.TypeOfFault.{TypeOfFault}
