@@ -1,19 +1,19 @@
 -- Events that are played one after another, and what a board shows.
-use Rattle.std.proofs.Common.{◌≡◌, ◌⊎◌, ◌<◌, ◌+◌, ℕ, List, [], ◌∷◌, ◌++◌, take, length, get_or, arith, inl, inr, sym, ◌∙◌, ap, subst, Bool, true, Option, Some, None, add-one}
+use Rattle.std.proofs.Common.{◌≡◌, ◌⊎◌, ◌<◌, ◌+◌, ℕ, List, [], ◌∷◌, ◌++◌, take, length, get_or, arith, inl, inr, sym, ◌∙◌, ap, subst, Bool, true, Some, None, add-one}
 use Rattle.std.proofs.Math.Seq.{take-suc}
 use Rattle.std.proofs.lemmas.List.{length-map}
 use Rattle.fp_order.specs.declared.entry.Entry.{Entry}
 use Rattle.fp_order.specs.declared.grid.Grid.{Grid}
-use Rattle.fp_order.specs.Grid.{cells_of, columns_of}
+use Rattle.fp_order.specs.Grid.{cells_of}
 use Rattle.fp_shown.specs.declared.state.CellState.{CellState}
 use Rattle.fp_shown.specs.declared.state.CellState.TheVariants.{Free, Claimed, Settled, Cancelled}
 use Rattle.fp_shown.specs.declared.state.Event.{Event}
 use Rattle.fp_shown.specs.Fillings.{IsFilling}
-use Rattle.fp_shown.specs.Shown.{number_on, row_of, IsShown, IsRowShown}
+use Rattle.fp_shown.specs.Shown.{IsShown}
 use Rattle.fp_shown.specs.Machine.{state_at, settled_of, settled, Board, IsAllowed, after, IsBoard, Plays, none, more, Steps, CancelledAreFree, ClosedHasResult}
 use Rattle.fp_shown.proofs.Boards.{settled_at}
-use Rattle.fp_shown.proofs.Inside.{inside_grid, placed}
-use Rattle.fp_shown.proofs.Effect as effect
+use Rattle.fp_shown.proofs.Free.{closed_one}
+use Rattle.fp_shown.proofs.Free as free
 
 pub plays_more : (g : Grid) (v : List Entry) (first last : List CellState) (events : List Event) (event : Event) → Plays g v first events last → IsAllowed g v last event →
     Plays g v first (events ++ event ∷ []) (after last event)
@@ -54,24 +54,14 @@ fills_own g verdicts states b = record {
   agrees = λ k v h. sym (b.entries k v (settled_some (state_at states k) v (sym (settled_at states k) ∙ h)));
 }
 
-row_shown : (g : Grid) (known : List (Option Entry)) (k : ℕ) → IsShown g known k → IsRowShown g known (row_of g k)
-unfolding IsShown
-row_shown g known k w = w
-
 pub cancelled_free : (b : Board) → IsBoard b.grid b.verdicts b.states → CancelledAreFree b
-cancelled_free b h k l s =
-    let g = b.grid in
-    effect.shown_free (number_on g) (row_of g) (length (columns_of g.functions)) (length g.rows) (settled b.states)
-    (inside_grid g (settled b.states) h.right (length-map b.states settled_of ∙ h.len)) (λ c r m n. placed g c r h.right m n) k (row_shown g (settled b.states) k (h.shown k l s))
+cancelled_free b h k l s = free.shown_free b.grid h.right (settled b.states) (length-map b.states settled_of ∙ h.len) k (h.shown k l s)
 
 pub closed_result : (b : Board) → IsBoard b.grid b.verdicts b.states → ClosedHasResult b
 closed_result b h closed full fills =
-    let g = b.grid in
-    let len = length-map b.states settled_of ∙ h.len in
-    effect.closed_one (number_on g) (row_of g) (length (columns_of g.functions)) (length g.rows) (length (cells_of g)) (λ known l. inside_grid g known h.right l) (λ c r m n. placed g c r h.right m n)
-    (settled b.states) len known_or_shown b.verdicts full (fills_own g b.verdicts b.states h) fills where
-      known_or_shown : (k : ℕ) → k < length (cells_of b.grid) → ((v : Entry) × (get_or (settled b.states) k None ≡ Some v)) ⊎ IsRowShown b.grid (settled b.states) (row_of b.grid k)
+    closed_one b.grid h.right (settled b.states) (length-map b.states settled_of ∙ h.len) known_or_shown b.verdicts full (fills_own b.grid b.verdicts b.states h) fills where
+      known_or_shown : (k : ℕ) → k < length (cells_of b.grid) → ((v : Entry) × (get_or (settled b.states) k None ≡ Some v)) ⊎ IsShown b.grid (settled b.states) k
       known_or_shown k l = let m : k < length b.states = omega (arith, l, h.len) in elim (closed k m) [
         | inl t ↦ inl (t.0, settled_at b.states k ∙ ap settled_of t.1)
-        | inr s ↦ inr (row_shown b.grid (settled b.states) k (h.shown k m s))
+        | inr s ↦ inr (h.shown k m s)
       ]

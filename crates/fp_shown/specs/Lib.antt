@@ -1,4 +1,5 @@
 pub mod Fillings
 pub mod Known
 pub mod Shown
+pub mod Effect
 pub mod Machine

@@ -10,7 +10,7 @@ mod search;
 mod state;
 mod table;
 
-pub use laws::{closed_has_one_result, shown_free, shown_stays};
+pub use laws::{closed_has_one_result, rows_left_decide, shown_free, shown_stays};
 pub use machine::Machine;
 pub use partial::Partial;
 pub use search::{forced, shown};

@@ -274,7 +274,7 @@ impl Machine {
     }
 
     /// What is so of every machine: each settled cell has its entry, each cancelled cell is shown by the settled
-    /// ones and free of effect, and where all cells are closed the column search has one result on every filling.
+    /// ones and free of effect, and where all cells are closed every filling has the full matrix's result.
     pub fn laws(&self)
         ensures board { IsBoard self.now.grid self.now.verdicts self.now.states }
         ensures free { CancelledAreFree self.now }
