@@ -21,7 +21,7 @@ past_end [] k h = refl
 past_end (x ∷ xs) zero h = absurd (omega arith)
 past_end (x ∷ xs) (suc k) h = past_end xs k (omega arith)
 
-shown_row : (g : Grid) (known : List (Option Entry)) (k : ℕ) → IsShown g known k → IsRowShown g known (row_of g k)
+pub shown_row : (g : Grid) (known : List (Option Entry)) (k : ℕ) → IsShown g known k → IsRowShown g known (row_of g k)
 unfolding IsShown
 shown_row g known k w = w
 

@@ -8,5 +8,6 @@ pub mod Flat
 pub mod RowEntries
 pub mod Effect
 pub mod Free
+pub mod Needs
 pub mod Boards
 pub mod Plays

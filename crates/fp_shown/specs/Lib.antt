@@ -2,4 +2,5 @@ pub mod Fillings
 pub mod Known
 pub mod Shown
 pub mod Effect
+pub mod Need
 pub mod Machine

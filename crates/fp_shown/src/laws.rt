@@ -4,6 +4,7 @@ ghost use Rattle.std.specs.Prelude.{length};
 ghost use Rattle.fp_order.specs.Grid.{cells_of, columns_of, IsGrid};
 ghost use Rattle.fp_shown.specs.Fillings.{ShownStays};
 ghost use Rattle.fp_shown.specs.Effect.{RowsLeftDecide, ShownIsFree, ClosedHasOneResult};
+ghost use Rattle.fp_shown.specs.Need.{NeedIsOne, NeedShowsRest};
 ghost use Rattle.fp_shown.specs.Shown.{number_on};
 
 use fp_order::Grid;
@@ -38,6 +39,21 @@ pub fn shown_free(g: &Grid)
 pub fn closed_has_one_result(g: &Grid)
     requires { IsGrid g.now }
     ensures { ClosedHasOneResult g.now }
+{
+    let _ = g;
+}
+
+/// Of each full matrix one list of cells is needed.
+pub fn need_is_one(g: &Grid)
+    requires { IsGrid g.now }
+    ensures { NeedIsOne g.now }
+{
+    let _ = g;
+}
+
+/// The entries of the cells that are needed show all other cells.
+pub fn need_shows_rest(g: &Grid)
+    ensures { NeedShowsRest g.now }
 {
     let _ = g;
 }
