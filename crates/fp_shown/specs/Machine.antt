@@ -121,6 +121,10 @@ pub record IsPlayed (old : Board) (events : List Event) (new : Board) (n : ℕ) 
 abbrev pub IsClosed : CellState → Type 0
 IsClosed s = ((v : Entry) × (s ≡ Settled v)) ⊎ (s ≡ Cancelled)
 
+-- a closed cell stays as it is
+abbrev pub ClosedStays : List CellState → List CellState → Type 0
+ClosedStays old new = (k : ℕ) → IsClosed (state_at old k) → state_at new k ≡ state_at old k
+
 -- each cancelled cell is free of effect in the matrix of the settled ones
 abbrev pub CancelledAreFree : Board → Type 0
 CancelledAreFree b = (k : ℕ) → k < length b.states → state_at b.states k ≡ Cancelled → IsFreeOfEffect b.grid (settled b.states) k
