@@ -48,7 +48,7 @@ chosen e columns mappings first second ranks s = record {
 }
 
 -- a row that the first order decides
-decided_front : (g : Grid) (entries : List Entry) (columns mappings : List Rank) (first second : List ℕ) (ranks : List Rank) (row j : ℕ) →
+pub decided_front : (g : Grid) (entries : List Entry) (columns mappings : List Rank) (first second : List ℕ) (ranks : List Rank) (row j : ℕ) →
     Chosen (λ k. rank_entry g entries k row) columns mappings first second ranks → IsDecidedAt (candidate_entry g entries columns) first row j → IsRowDecidedAt g entries ranks row j
 decided_front g entries columns mappings first second ranks row j ch d = record {
   inside = omega (arith, ch.len, d.inside);

@@ -8,6 +8,7 @@ mod items;
 mod matrix;
 mod numbering;
 mod search;
+mod threads;
 
 pub use choices::{columns, first_choices};
 pub use entry::Entry;
@@ -16,3 +17,4 @@ pub use items::Items;
 pub use matrix::{Matrix, Order};
 pub use numbering::{CellTable, cell_table, cells};
 pub use search::{best_order, decides, orders_join};
+pub use threads::cross_threads;

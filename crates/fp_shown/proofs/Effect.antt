@@ -1,138 +1,183 @@
--- A shown cell is free of effect.
-use Rattle.std.proofs.Common.{◌≡◌, ◌<◌, ◌≤◌, ℕ, zero, suc, List, [], ◌∷◌, ◌++◌, length, get_or, refl, arith, inl, inr, sym, ◌∙◌, subst, Option}
+-- The whole search on two matrices on which the column search has one result.
+use Rattle.std.proofs.Common.{◌≡◌, ◌<◌, ◌-◌, ◌+◌, ℕ, zero, suc, List, [], ◌∷◌, map, length, get_or, refl, arith, inl, inr, sym, ◌∙◌, ap, subst, Option, Some, None, MatchOption}
 use Rattle.std.proofs.lemmas.Bool.{cases_lt}
+use Rattle.std.proofs.lemmas.List.{length-map}
 use Rattle.fp_order.specs.declared.entry.Entry.{Entry}
-use Rattle.fp_order.specs.declared.entry.Entry.TheVariants.{Unknown}
-use Rattle.fp_order.specs.Orders.{IsDecidedAt, IsKept, IsPartial, IsOver, IsChoice, IsBest}
+use Rattle.fp_order.specs.declared.grid.Grid.{Grid}
+use Rattle.fp_order.specs.Grid.{columns_of, IsGrid}
+use Rattle.fp_order.specs.Numbers.{number_of}
+use Rattle.fp_order.specs.Orders.{IsDecidedAt, IsKept, IsBest}
+use Rattle.fp_order.proofs.Best.{best_rows}
 use Rattle.fp_order.proofs.Cons.{less≢leq}
-use Rattle.fp_order.proofs.Laws.{decided_left, kept_undecided}
-use Rattle.fp_order.proofs.Exists.{IsRows, rows_below}
-use Rattle.fp_shown.specs.Fillings.{entries_of, IsFilling, IsShownRow, SameResult, IsFreeOfEffect, ClosedHasOneResult}
-use Rattle.fp_shown.specs.Known.{known_at}
-use Rattle.fp_shown.proofs.Forces.{Forces, After, Agrees, forced_split, forced_join, decided_at_one, left_kept, after_rows, forces_exists}
-use Rattle.fp_shown.proofs.Longest.{IsInside, fills_agrees, shown_gone}
+use Rattle.fp_level.specs.declared.rank.Rank.{Rank}
+use Rattle.fp_level.specs.declared.rank.Rank.TheVariants.{Column}
+use Rattle.fp_level.specs.declared.rank.Found.{Found}
+use Rattle.fp_level.specs.Ranks.{column_ranks, mappings_of, candidate, candidate_entry, rank_entry}
+use Rattle.fp_level.specs.Result.{IsRowDecidedAt, IsRowLeft, IsResult}
+use Rattle.fp_level.proofs.Fit.{column_fits, mapping_fits}
+use Rattle.fp_level.proofs.Joined.{chosen, decided_front}
+use Rattle.fp_shown.specs.Effect.{AgreeAt}
+use Rattle.fp_shown.specs.Fillings.{entries_of}
+use Rattle.fp_shown.specs.Shown.{number_on, row_of}
+use Rattle.fp_shown.proofs.ColumnEffect.{SameColumns, decided_same, kept_same, best_same}
+use Rattle.fp_shown.proofs.Inside.{row_of_number}
+use Rattle.fp_shown.proofs.RowEntries.{SameCells, candidates_same}
 
--- two matrices with the same entries on the row
-abbrev SameOn : ℕ → (ℕ → ℕ → Entry) → (ℕ → ℕ → Entry) → ℕ → Type 0
-SameOn n e a r = (c : ℕ) → c < n → e c r ≡ a c r
+column_at : (columns : List (List ℕ)) (c : ℕ) → candidate (map (λ (x : List ℕ). Column x) columns) c ≡ Column (get_or columns c [])
+column_at [] c = refl
+column_at (x ∷ columns) zero = refl
+column_at (x ∷ columns) (suc c) = column_at columns c
 
-decided_same : (n : ℕ) (e a : ℕ → ℕ → Entry) (o : List ℕ) (r i : ℕ) → IsOver n o → SameOn n e a r → IsDecidedAt e o r i → IsDecidedAt a o r i
-decided_same n e a o r i over s d = record {
-  inside = d.inside;
-  less = sym (s _ (over i d.inside)) ∙ d.less;
-  before = λ j h. sym (s _ (over j (omega (arith, h, d.inside)))) ∙ d.before j h;
-}
+-- a column's entry is that of its cell
+column_entry : (g : Grid) (entries : List Entry) (c r : ℕ) → candidate_entry g entries (column_ranks g.functions) c r ≡ entries_of (number_on g) entries c r
+unfolding number_on
+column_entry g entries c r = ap (λ (k : Rank). rank_entry g entries k r) (column_at (columns_of g.functions) c)
 
-kept_same : (n : ℕ) (e a : ℕ → ℕ → Entry) (o : List ℕ) (r : ℕ) → IsOver n o → SameOn n e a r → IsKept e o r → IsKept a o r
-kept_same n e a o r over s k j h = sym (s _ (over j h)) ∙ k j h
+-- the result of the column search on both
+abbrev pub ColumnsSame : Grid → List Entry → List Entry → Type 0
+ColumnsSame g full other = SameColumns (number_on g) (row_of g) (length (columns_of g.functions)) (length g.rows) full other
 
-same_sym : (n : ℕ) (e a : ℕ → ℕ → Entry) (r : ℕ) → SameOn n e a r → SameOn n a e r
-same_sym n e a r s c l = sym (s c l)
+-- the entries of columns and of mappings
+abbrev by_column : Grid → List Entry → ℕ → ℕ → Entry
+by_column g entries = candidate_entry g entries (column_ranks g.functions)
 
-partial_same : (n : ℕ) (e a : ℕ → ℕ → Entry) (R : ℕ → Type 0) → ((r : ℕ) → R r → SameOn n e a r) → (o : List ℕ) → IsOver n o → IsPartial e R o → IsPartial a R o
-partial_same n e a R s o over p r h = elim (p r h) [ inl d ↦ inl (d.0, decided_same n e a o r d.0 over (s r h) d.1) | inr k ↦ inr (kept_same n e a o r over (s r h) k) ]
+abbrev by_mapping : Grid → List Entry → ℕ → ℕ → Entry
+by_mapping g entries = candidate_entry g entries (mappings_of g.functions)
 
-choice_same : (e a : ℕ → ℕ → Entry) (n : ℕ) (R : ℕ → Type 0) → ((r : ℕ) → R r → SameOn n e a r) → ((r : ℕ) → R r → SameOn n a e r) → (o : List ℕ) → IsChoice e n R o → IsChoice a n R o
-choice_same e a n R s t o h = record {
-  over = h.over;
-  partial = partial_same n e a R s o h.over h.partial;
-  irredundant = λ i k. let w = h.irredundant i k in (w.0, w.1, decided_same n e a o w.0 i h.over (s w.0 w.1) w.2);
-  most = λ other over p r k d.
-      let w = h.most other over (partial_same n a e R t other over p) r k (d.0, decided_same n a e other r d.0 over (t r k) d.1) in
-      (w.0, decided_same n e a o r w.0 h.over (s r k) w.1);
-}
+count_same : (g : Grid) → length (column_ranks g.functions) ≡ length (columns_of g.functions)
+count_same g = length-map (columns_of g.functions) (λ (x : List ℕ). Column x)
 
--- the best order depends on the entries on the rows alone
-best_same : (e a : ℕ → ℕ → Entry) (n : ℕ) (R : ℕ → Type 0) → ((r : ℕ) → R r → SameOn n e a r) → (o : List ℕ) → IsBest e n R o → IsBest a n R o
-best_same e a n R s o b =
-    let t : (r : ℕ) → R r → SameOn n a e r = λ r h. same_sym n e a r (s r h) in
-    record { choice = choice_same e a n R s t o b.choice; least = λ other h. b.least other (choice_same a e n R t s other h) }
+to_cells : (g : Grid) (entries : List Entry) (o : List ℕ) → IsBest (by_column g entries) (length (column_ranks g.functions)) (λ r. r < length g.rows) o →
+    IsBest (entries_of (number_on g) entries) (length (columns_of g.functions)) (λ r. r < length g.rows) o
+to_cells g entries o b =
+    let P : ℕ → Type 0 = λ n. IsBest (by_column g entries) n (λ r. r < length g.rows) o in
+    best_same (by_column g entries) (entries_of (number_on g) entries) (length (columns_of g.functions)) (λ r. r < length g.rows)
+    (λ r h c l. column_entry g entries c r) o (subst P (count_same g) b)
 
--- a row is decided at one position
-decided_once : (e : ℕ → ℕ → Entry) (o : List ℕ) (r i j : ℕ) → IsDecidedAt e o r i → IsDecidedAt e o r j → i ≡ j
-decided_once e o r i j d f = elim (cases_lt i j) [
+from_cells : (g : Grid) (entries : List Entry) (o : List ℕ) → IsBest (entries_of (number_on g) entries) (length (columns_of g.functions)) (λ r. r < length g.rows) o →
+    IsBest (by_column g entries) (length (column_ranks g.functions)) (λ r. r < length g.rows) o
+from_cells g entries o b =
+    let P : ℕ → Type 0 = λ n. IsBest (by_column g entries) n (λ r. r < length g.rows) o in
+    subst P (sym (count_same g)) (best_same (entries_of (number_on g) entries) (by_column g entries) (length (columns_of g.functions)) (λ r. r < length g.rows)
+    (λ r h c l. sym (column_entry g entries c r)) o b)
+
+-- a row that the columns keep has the same cells on both
+kept_cells : (g : Grid) (full other : List Entry) → IsGrid g → ColumnsSame g full other → (o : List ℕ) →
+    IsBest (by_column g full) (length (column_ranks g.functions)) (λ r. r < length g.rows) o → (r : ℕ) → r < length g.rows → IsKept (by_column g full) o r →
+    (k : ℕ) → row_of g k ≡ r → AgreeAt full other k
+kept_cells g full other h same o b r l kept =
+    same.left o (to_cells g full o b) r l
+    (kept_same (length (column_ranks g.functions)) (by_column g full) (entries_of (number_on g) full) o r b.choice.over (λ c m. column_entry g full c r) kept)
+
+kept_row : (g : Grid) (full other : List Entry) → IsGrid g → ColumnsSame g full other → (o : List ℕ) →
+    IsBest (by_column g full) (length (column_ranks g.functions)) (λ r. r < length g.rows) o → (r : ℕ) → r < length g.rows → IsKept (by_column g full) o r → SameCells g full other r
+kept_row g full other h same o b r l kept x fit at = kept_cells g full other h same o b r l kept (number_of g x) (row_of_number g x fit ∙ at)
+
+-- what the columns keep on the one they keep on the other
+kept_on : (g : Grid) (full other : List Entry) → IsGrid g → ColumnsSame g full other → (o : List ℕ) →
+    IsBest (by_column g full) (length (column_ranks g.functions)) (λ r. r < length g.rows) o → (r : ℕ) → r < length g.rows → IsKept (by_column g full) o r → IsKept (by_column g other) o r
+kept_on g full other h same o b r l kept =
+    kept_same (length (column_ranks g.functions)) (by_column g full) (by_column g other) o r b.choice.over
+    (candidates_same g full other r h l (kept_row g full other h same o b r l kept) (column_ranks g.functions) (column_fits g.functions)) kept
+
+-- a row that a column decides is decided at the same position on both
+decided_on : (g : Grid) (full other : List Entry) → ColumnsSame g full other → (o : List ℕ) →
+    IsBest (by_column g full) (length (column_ranks g.functions)) (λ r. r < length g.rows) o → (r i : ℕ) → r < length g.rows → IsDecidedAt (by_column g full) o r i → IsDecidedAt (by_column g other) o r i
+decided_on g full other same o b r i l d =
+    let n = length (column_ranks g.functions) in
+    decided_same n (entries_of (number_on g) other) (by_column g other) o r i b.choice.over (λ c m. sym (column_entry g other c r))
+    (same.decided o (to_cells g full o b) r i l
+    (decided_same n (by_column g full) (entries_of (number_on g) full) o r i b.choice.over (λ c m. column_entry g full c r) d))
+
+-- a row is decided at one position, and then not left
+row_once : (g : Grid) (entries : List Entry) (ranks : List Rank) (r i j : ℕ) → IsRowDecidedAt g entries ranks r i → IsRowDecidedAt g entries ranks r j → i ≡ j
+row_once g entries ranks r i j d f = elim (cases_lt i j) [
   | inl l ↦ absurd (less≢leq _ (f.before i l) d.less)
   | inr l ↦ elim (cases_lt j i) [ inl k ↦ absurd (less≢leq _ (d.before j k) f.less) | inr k ↦ omega arith ]
 ]
 
--- two fillings that agree on the rows that the forced columns leave have one result
-same_result : (at : ℕ → ℕ → ℕ) (row_of : ℕ → ℕ) (n rows : ℕ) (known : List (Option Entry)) → ((c r : ℕ) → c < n → r < rows → row_of (at c r) ≡ r) →
-    (o : List ℕ) → Forces (known_at at known) n o (λ r. r < rows) → (full other : List Entry) → IsFilling known full → IsFilling known other →
-    ((k : ℕ) → After (known_at at known) o (λ r. r < rows) (row_of k) → get_or full k Unknown ≡ get_or other k Unknown) → SameResult at row_of n rows full other
-same_result at row_of n rows known place o forces full other fills others same = record { order = order; decided = decided; left = left } where
-  e_agrees : Agrees (known_at at known) (entries_of at full)
-  e_agrees = fills_agrees at known full fills
+not_left : (g : Grid) (entries : List Entry) (ranks : List Rank) (r i : ℕ) → IsRowDecidedAt g entries ranks r i → IsRowLeft g entries ranks r → ⊥
+not_left g entries ranks r i d left = less≢leq _ (left i d.inside) d.less
 
-  a_agrees : Agrees (known_at at known) (entries_of at other)
-  a_agrees = fills_agrees at known other others
+-- what is said of a row, where it is decided at `i` on both
+tell_decided : (g : Grid) (full other : List Entry) (ranks : List Rank) (r i : ℕ) → IsRowDecidedAt g full ranks r i → IsRowDecidedAt g other ranks r i → (now : Option ℕ) →
+    MatchOption now (IsRowLeft g full ranks r) (λ j. IsRowDecidedAt g full ranks r j) → MatchOption now (IsRowLeft g other ranks r) (λ j. IsRowDecidedAt g other ranks r j)
+tell_decided g full other ranks r i d f None t = absurd (not_left g full ranks r i d t)
+tell_decided g full other ranks r i d f (Some j) t =
+    let P : ℕ → Type 0 = λ k. IsRowDecidedAt g other ranks r k in subst P (row_once g full ranks r i j d t) f
 
-  rows_left : IsRows (After (known_at at known) o (λ r. r < rows))
-  rows_left = after_rows (known_at at known) o (λ r. r < rows) (rows_below rows)
+-- what is said of a row, where the ranks have the same entries there
+tell_same : (g : Grid) (full other : List Entry) (ranks : List Rank) (r : ℕ) → ((j : ℕ) → j < length ranks → rank_entry g full (candidate ranks j) r ≡ rank_entry g other (candidate ranks j) r) → (now : Option ℕ) →
+    MatchOption now (IsRowLeft g full ranks r) (λ j. IsRowDecidedAt g full ranks r j) → MatchOption now (IsRowLeft g other ranks r) (λ j. IsRowDecidedAt g other ranks r j)
+tell_same g full other ranks r same None t = λ j l. sym (same j l) ∙ t j l
+tell_same g full other ranks r same (Some i) t = record {
+  inside = t.inside;
+  less = sym (same i t.inside) ∙ t.less;
+  before = λ j l. sym (same j (omega (arith, l, t.inside))) ∙ t.before j l;
+}
 
-  on_left : (r : ℕ) → After (known_at at known) o (λ r. r < rows) r → SameOn n (entries_of at full) (entries_of at other) r
-  on_left r h c l =
-      let q = place c r l (left_kept (known_at at known) n o (λ r. r < rows) forces r h).0 in
-      same (at c r) (subst (After (known_at at known) o (λ r. r < rows)) (sym q) h)
+-- the ranks of a result have the same entries on a row with the same cells
+ranks_same : (g : Grid) (full other : List Entry) (f : Found) → IsGrid g → (b : IsResult g full f) → (r : ℕ) → r < length g.rows → SameCells g full other r →
+    (j : ℕ) → j < length f.ranks → rank_entry g full (candidate f.ranks j) r ≡ rank_entry g other (candidate f.ranks j) r
+ranks_same g full other f h b r l same j m =
+    let cs = column_ranks g.functions in
+    let ms = mappings_of g.functions in
+    let p = chosen (λ k. rank_entry g full k r) cs ms b.columns b.mappings f.ranks b.ranks in
+    let q = chosen (λ k. rank_entry g other k r) cs ms b.columns b.mappings f.ranks b.ranks in
+    elim (cases_lt j (length b.columns)) [
+      | inl n ↦ p.front j n ∙ (candidates_same g full other r h l same cs (column_fits g.functions) (get_or b.columns j 0) (b.best_columns.choice.over j n) ∙ sym (q.front j n))
+      | inr n ↦
+          let i = j - length b.columns in
+          let at : j ≡ length b.columns + i = omega arith in
+          let k : i < length b.mappings = omega (arith, m, p.len) in
+          p.back j i at k ∙ (candidates_same g full other r h l same ms (mapping_fits g.functions) (get_or b.mappings i 0) (b.best_mappings.choice.over i k) ∙ sym (q.back j i at k))
+    ]
 
-  split : (best : List ℕ) → IsBest (entries_of at full) n (λ r. r < rows) best → (t : List ℕ) × (best ≡ o ++ t) × IsBest (entries_of at full) n (After (known_at at known) o (λ r. r < rows)) t
-  split best b = forced_split (known_at at known) (entries_of at full) n e_agrees o (λ r. r < rows) (rows_below rows) forces best b
+-- a result of the one is a result of the other
+pub found_same : (g : Grid) (full other : List Entry) → IsGrid g → ColumnsSame g full other → ColumnsSame g other full → (f : Found) → IsResult g full f → IsResult g other f
+found_same g full other h same back f b = record {
+  columns = b.columns;
+  mappings = b.mappings;
+  best_columns = on_other;
+  best_mappings = best_rows (by_mapping g other) (length (mappings_of g.functions)) (Kept full) (Kept other) b.mappings
+      (λ r k. (k.0, kept_on g full other h same b.columns b.best_columns r k.0 k.1))
+      (λ r k. (k.0, kept_on g other full h back b.columns on_other r k.0 k.1))
+      (best_same (by_mapping g full) (by_mapping g other) (length (mappings_of g.functions)) (Kept full)
+      (λ r k. candidates_same g full other r h k.0 (kept_row g full other h same b.columns b.best_columns r k.0 k.1) (mappings_of g.functions) (mapping_fits g.functions))
+      b.mappings b.best_mappings);
+  ranks = b.ranks;
+  len = b.len;
+  decided = tells;
+} where
+  Kept : List Entry → ℕ → Type 0
+  Kept entries r = (r < length g.rows) × IsKept (by_column g entries) b.columns r
 
-  order : (best : List ℕ) → IsBest (entries_of at full) n (λ r. r < rows) best → IsBest (entries_of at other) n (λ r. r < rows) best
-  order best b =
-      let s = split best b in
-      let t = best_same (entries_of at full) (entries_of at other) n (After (known_at at known) o (λ r. r < rows)) on_left s.0 s.2 in
-      let P : List ℕ → Type 0 = λ x. IsBest (entries_of at other) n (λ r. r < rows) x in
-      subst P (sym s.1) (forced_join (known_at at known) (entries_of at other) n a_agrees o (λ r. r < rows) forces s.0 t)
+  on_other : IsBest (by_column g other) (length (column_ranks g.functions)) (λ r. r < length g.rows) b.columns
+  on_other = from_cells g other b.columns (same.order b.columns (to_cells g full b.columns b.best_columns))
 
-  gone_at : (row : ℕ) → row < rows → (After (known_at at known) o (λ r. r < rows) row → ⊥) → (best : List ℕ) → IsBest (entries_of at full) n (λ r. r < rows) best →
-      (i : ℕ) × IsDecidedAt (entries_of at full) best row i × IsDecidedAt (entries_of at other) best row i
-  gone_at row l gone best b =
-      let s = split best b in
-      let p = decided_at_one (known_at at known) n o (λ r. r < rows) forces row l gone in
-      let P : List ℕ → Type 0 = λ x. IsDecidedAt (entries_of at full) x row p.0 in
-      let Q : List ℕ → Type 0 = λ x. IsDecidedAt (entries_of at other) x row p.0 in (
-        p.0,
-        subst P (sym s.1) (decided_left (entries_of at full) o s.0 row p.0 (p.1 (entries_of at full) e_agrees)),
-        subst Q (sym s.1) (decided_left (entries_of at other) o s.0 row p.0 (p.1 (entries_of at other) a_agrees)),
-      )
-
-  decided : (best : List ℕ) → IsBest (entries_of at full) n (λ r. r < rows) best → (row i : ℕ) → row < rows → IsDecidedAt (entries_of at full) best row i → IsDecidedAt (entries_of at other) best row i
-  decided best b row i l d = elim (rows_left.test row) [
-    | inl h ↦ decided_same n (entries_of at full) (entries_of at other) best row i b.choice.over (on_left row h) d
-    | inr gone ↦
-        let g = gone_at row l gone best b in
-        let P : ℕ → Type 0 = λ x. IsDecidedAt (entries_of at other) best row x in
-        subst P (sym (decided_once (entries_of at full) best row i g.0 d g.1)) g.2
-  ]
-
-  left : (best : List ℕ) → IsBest (entries_of at full) n (λ r. r < rows) best → (row : ℕ) → row < rows →
-      IsKept (entries_of at full) best row → (k : ℕ) → row_of k ≡ row → get_or full k Unknown ≡ get_or other k Unknown
-  left best b row l kept k s = elim (rows_left.test row) [
-    | inl h ↦ same k (subst (After (known_at at known) o (λ r. r < rows)) (sym s) h)
-    | inr gone ↦ let g = gone_at row l gone best b in absurd (kept_undecided (entries_of at full) best row kept (g.0, g.1))
-  ]
-
-pub shown_free : (at : ℕ → ℕ → ℕ) (row_of : ℕ → ℕ) (n rows : ℕ) (known : List (Option Entry)) → IsInside at n (λ r. r < rows) known → ((c r : ℕ) → c < n → r < rows → row_of (at c r) ≡ r) →
-    (cell : ℕ) → IsShownRow at n rows known (row_of cell) → IsFreeOfEffect at row_of n rows known cell
-shown_free at row_of n rows known in_list place cell w full other fills others same =
-    let o = forces_exists (known_at at known) n (λ r. r < rows) (rows_below rows) in
-    let gone = shown_gone at n rows known o.0 in_list o.1 (row_of cell) w in
-    same_result at row_of n rows known place o.0 o.1 full other fills others
-    (λ k h. same k (λ q. gone (subst (λ (x : ℕ). After (known_at at known) o.0 (λ r. r < rows) (row_of x)) q h)))
-
--- where each cell is known or shown, each two fillings have one result
-pub closed_one : (at : ℕ → ℕ → ℕ) (row_of : ℕ → ℕ) (n rows cells : ℕ) → ((known : List (Option Entry)) → length known ≡ cells → IsInside at n (λ r. r < rows) known) →
-    ((c r : ℕ) → c < n → r < rows → row_of (at c r) ≡ r) → ClosedHasOneResult at row_of n rows cells
-closed_one at row_of n rows cells in_list place known len closed full other fills others =
-    let o = forces_exists (known_at at known) n (λ r. r < rows) (rows_below rows) in
-    same_result at row_of n rows known place o.0 o.1 full other fills others (λ k h. elim (cases_lt k cells) [
-      | inr far ↦ past_end full k (omega (arith, fills.len, len, far)) ∙ sym (past_end other k (omega (arith, others.len, len, far)))
-      | inl near ↦ elim (closed k near) [
-        | inl t ↦ fills.agrees k t.0 t.1 ∙ sym (others.agrees k t.0 t.1)
-        | inr w ↦ absurd (shown_gone at n rows known o.0 (in_list known len) o.1 (row_of k) w h)
+  tells : (r : ℕ) → r < length g.rows → MatchOption (get_or f.decided r None) (IsRowLeft g other f.ranks r) (λ i. IsRowDecidedAt g other f.ranks r i)
+  tells r l =
+      let cs = column_ranks g.functions in
+      let ms = mappings_of g.functions in
+      elim (b.best_columns.choice.partial r l) [
+        | inl d ↦ tell_decided g full other f.ranks r d.0
+            (decided_front g full cs ms b.columns b.mappings f.ranks r d.0 (chosen (λ k. rank_entry g full k r) cs ms b.columns b.mappings f.ranks b.ranks) d.1)
+            (decided_front g other cs ms b.columns b.mappings f.ranks r d.0 (chosen (λ k. rank_entry g other k r) cs ms b.columns b.mappings f.ranks b.ranks)
+            (decided_on g full other same b.columns b.best_columns r d.0 l d.1))
+            (get_or f.decided r None) (b.decided r l)
+        | inr k ↦ tell_same g full other f.ranks r
+            (ranks_same g full other f h b r l (kept_row g full other h same b.columns b.best_columns r l k)) (get_or f.decided r None) (b.decided r l)
       ]
-    ]) where
-      past_end : (xs : List Entry) (k : ℕ) → length xs ≤ k → get_or xs k Unknown ≡ Unknown
-      past_end [] k h = refl
-      past_end (x ∷ xs) zero h = absurd (omega arith)
-      past_end (x ∷ xs) (suc k) h = past_end xs k (omega arith)
+
+-- on the rows that a result leaves both have the same cells
+pub left_same : (g : Grid) (full other : List Entry) → IsGrid g → ColumnsSame g full other → (f : Found) → IsResult g full f →
+    (r : ℕ) → r < length g.rows → get_or f.decided r None ≡ None → (k : ℕ) → row_of g k ≡ r → AgreeAt full other k
+left_same g full other h same f b r l none =
+    let cs = column_ranks g.functions in
+    let ms = mappings_of g.functions in
+    elim (b.best_columns.choice.partial r l) [
+      | inl d ↦ absurd (not_left g full f.ranks r d.0
+          (decided_front g full cs ms b.columns b.mappings f.ranks r d.0 (chosen (λ k. rank_entry g full k r) cs ms b.columns b.mappings f.ranks b.ranks) d.1)
+          (rw none at (b.decided r l)))
+      | inr k ↦ kept_cells g full other h same b.columns b.best_columns r l k
+    ]

@@ -75,7 +75,7 @@ numbers_long g numbers s n rows t h =
     rw (s, t, h) len
 
 -- the row of the cell that a column has on a row is that row
-row_of_number : (g : Grid) (x : Cell) → IsCell g x → row_of g (number_of g x) ≡ x.row
+pub row_of_number : (g : Grid) (x : Cell) → IsCell g x → row_of g (number_of g x) ≡ x.row
 unfolding row_of
 row_of_number g x h = let none : Cell = record { row = 0; source = 0; target = 0 } in ap (λ (y : Cell). y.row) (number_holds g x h none)
 

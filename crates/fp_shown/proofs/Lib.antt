@@ -1,9 +1,13 @@
 pub mod Forces
 pub mod Longest
-pub mod Effect
+pub mod ColumnEffect
 pub mod ColumnKind
 pub mod Inside
 pub mod Cells
 pub mod Flat
+pub mod RowEntries
+pub mod Effect
+pub mod Free
+pub mod Needs
 pub mod Boards
 pub mod Plays

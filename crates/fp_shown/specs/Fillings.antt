@@ -1,9 +1,9 @@
--- Partial matrices: which columns each filling begins with, and which cells then have no effect.
--- `at column row` is the number of the cell of a column on a row, and `row_of cell` is a cell's row.
-use Rattle.std.specs.Prelude.{◌≡◌, ◌<◌, ◌⊎◌, ℕ, List, ◌++◌, length, slice_index_or, Option, Some, None, MatchOption}
+-- Partial matrices: which columns the column search of each filling begins with.
+-- `at column row` is the number of the cell of a column on a row.
+use Rattle.std.specs.Prelude.{◌≡◌, ◌<◌, ℕ, List, ◌++◌, length, slice_index_or, Option, Some, None, MatchOption}
 use Rattle.fp_order.specs.declared.entry.Entry.{Entry}
 use Rattle.fp_order.specs.declared.entry.Entry.TheVariants.{Unknown}
-use Rattle.fp_order.specs.Orders.{IsDecidedAt, IsDecided, IsKept, IsBest}
+use Rattle.fp_order.specs.Orders.{IsDecided, IsBest}
 
 -- the entries of a full matrix by column and row
 abbrev pub entries_of : (ℕ → ℕ → ℕ) → List Entry → ℕ → ℕ → Entry
@@ -40,21 +40,6 @@ pub record KnowsMore (known more : List (Option Entry)) : Type 0 where
   pub len : length more ≡ length known
   pub keeps : (k : ℕ) (v : Entry) → slice_index_or known k None ≡ Some v → slice_index_or more k None ≡ Some v
 
--- the column search has one result on both: the order, the deciding positions, and the cells of the rows left
-pub record SameResult (at : ℕ → ℕ → ℕ) (row_of : ℕ → ℕ) (count rows : ℕ) (full other : List Entry) : Type 0 where
-  pub order : (best : List ℕ) → IsBest (entries_of at full) count (λ r. r < rows) best → IsBest (entries_of at other) count (λ r. r < rows) best
-  pub decided : (best : List ℕ) → IsBest (entries_of at full) count (λ r. r < rows) best → (row i : ℕ) → row < rows →
-      IsDecidedAt (entries_of at full) best row i → IsDecidedAt (entries_of at other) best row i
-  pub left : (best : List ℕ) → IsBest (entries_of at full) count (λ r. r < rows) best → (row : ℕ) → row < rows →
-      IsKept (entries_of at full) best row → (k : ℕ) → row_of k ≡ row → slice_index_or full k Unknown ≡ slice_index_or other k Unknown
-
--- two fillings that agree off the cell have one result
-abbrev pub IsFreeOfEffect : (ℕ → ℕ → ℕ) → (ℕ → ℕ) → ℕ → ℕ → List (Option Entry) → ℕ → Type 0
-IsFreeOfEffect at row_of count rows known cell =
-    (full other : List Entry) → IsFilling known full → IsFilling known other →
-    ((k : ℕ) → (k ≡ cell → ⊥) → slice_index_or full k Unknown ≡ slice_index_or other k Unknown) →
-    SameResult at row_of count rows full other
-
 -- each position stands exactly at the rows that are shown
 abbrev pub TellsShown : (ℕ → ℕ → ℕ) → ℕ → ℕ → List (Option Entry) → List (Option ℕ) → Type 0
 TellsShown at count rows known decided = (row : ℕ) → row < rows →
@@ -64,14 +49,3 @@ TellsShown at count rows known decided = (row : ℕ) → row < rows →
 abbrev pub ShownStays : (ℕ → ℕ → ℕ) → ℕ → ℕ → ℕ → Type 0
 ShownStays at count rows cells = (known more : List (Option Entry)) → length known ≡ cells → KnowsMore known more →
     (row : ℕ) → IsShownRow at count rows known row → IsShownRow at count rows more row
-
--- a shown cell is free of effect, where `row_of` is the row of each cell
-abbrev pub ShownIsFree : (ℕ → ℕ → ℕ) → (ℕ → ℕ) → ℕ → ℕ → ℕ → Type 0
-ShownIsFree at row_of count rows cells = (known : List (Option Entry)) → length known ≡ cells →
-    (cell : ℕ) → IsShownRow at count rows known (row_of cell) → IsFreeOfEffect at row_of count rows known cell
-
--- where each cell is known or shown, each two fillings have one result
-abbrev pub ClosedHasOneResult : (ℕ → ℕ → ℕ) → (ℕ → ℕ) → ℕ → ℕ → ℕ → Type 0
-ClosedHasOneResult at row_of count rows cells = (known : List (Option Entry)) → length known ≡ cells →
-    ((k : ℕ) → k < cells → ((v : Entry) × (slice_index_or known k None ≡ Some v)) ⊎ IsShownRow at count rows known (row_of k)) →
-    (full other : List Entry) → IsFilling known full → IsFilling known other → SameResult at row_of count rows full other

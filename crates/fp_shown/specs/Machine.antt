@@ -3,13 +3,14 @@ use Rattle.std.specs.Prelude.{◌≡◌, ◌⊎◌, ◌<◌, ◌≤◌, ℕ, Boo
 use Rattle.fp_order.specs.declared.entry.Entry.{Entry}
 use Rattle.fp_order.specs.declared.entry.Entry.TheVariants.{Unknown}
 use Rattle.fp_order.specs.declared.grid.Grid.{Grid}
-use Rattle.fp_order.specs.Grid.{cells_of, columns_of, IsGrid}
+use Rattle.fp_order.specs.Grid.{cells_of, IsGrid}
 use Rattle.fp_shown.specs.declared.state.CellState.{CellState}
 use Rattle.fp_shown.specs.declared.state.CellState.TheVariants.{Free, Claimed, Settled, Cancelled}
 use Rattle.fp_shown.specs.declared.state.Event.{Event}
 use Rattle.fp_shown.specs.declared.state.Event.TheVariants.{Claim, Settle, Cancel, Quit}
-use Rattle.fp_shown.specs.Fillings.{IsFilling, IsFreeOfEffect, SameResult}
-use Rattle.fp_shown.specs.Shown.{number_on, row_of, IsShown}
+use Rattle.fp_shown.specs.Fillings.{IsFilling}
+use Rattle.fp_shown.specs.Effect.{IsFreeOfEffect, SameResult}
+use Rattle.fp_shown.specs.Shown.{IsShown}
 
 -- the state of a cell
 abbrev pub state_at : List CellState → ℕ → CellState
@@ -120,12 +121,15 @@ pub record IsPlayed (old : Board) (events : List Event) (new : Board) (n : ℕ) 
 abbrev pub IsClosed : CellState → Type 0
 IsClosed s = ((v : Entry) × (s ≡ Settled v)) ⊎ (s ≡ Cancelled)
 
--- each cancelled cell is free of effect on the column search in the matrix of the settled ones
-abbrev pub CancelledAreFree : Board → Type 0
-CancelledAreFree b = (k : ℕ) → k < length b.states → state_at b.states k ≡ Cancelled →
-    IsFreeOfEffect (number_on b.grid) (row_of b.grid) (length (columns_of b.grid.functions)) (length b.grid.rows) (settled b.states) k
+-- a closed cell stays as it is
+abbrev pub ClosedStays : List CellState → List CellState → Type 0
+ClosedStays old new = (k : ℕ) → IsClosed (state_at old k) → state_at new k ≡ state_at old k
 
--- where all cells are closed, the column search has one result on each filling of the settled cells, that of the full matrix
+-- each cancelled cell is free of effect in the matrix of the settled ones
+abbrev pub CancelledAreFree : Board → Type 0
+CancelledAreFree b = (k : ℕ) → k < length b.states → state_at b.states k ≡ Cancelled → IsFreeOfEffect b.grid (settled b.states) k
+
+-- where all cells are closed, each filling of the settled cells has the result of the full matrix
 abbrev pub ClosedHasResult : Board → Type 0
 ClosedHasResult b = ((k : ℕ) → k < length b.states → IsClosed (state_at b.states k)) → (full : List Entry) → IsFilling (settled b.states) full →
-    SameResult (number_on b.grid) (row_of b.grid) (length (columns_of b.grid.functions)) (length b.grid.rows) b.verdicts full
+    SameResult b.grid b.verdicts full

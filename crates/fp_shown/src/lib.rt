@@ -9,9 +9,13 @@ mod partial;
 mod search;
 mod state;
 mod table;
+mod threads;
 
-pub use laws::{closed_has_one_result, shown_free, shown_stays};
+pub use laws::{
+    closed_has_one_result, need_is_one, need_shows_rest, rows_left_decide, shown_free, shown_stays,
+};
 pub use machine::Machine;
 pub use partial::Partial;
 pub use search::{forced, shown};
 pub use state::{CellState, Event};
+pub use threads::cross_threads;

@@ -4,7 +4,7 @@ ghost use Rattle.std.specs.Prelude.{◌≡◌, ◌<◌, ◌^◌, ℕ, length, re
 ghost use Rattle.std.specs.Bool.{OnTrue, OnFalse};
 ghost use Rattle.fp_order.specs.Grid.{cells_of, IsGrid};
 ghost use Rattle.fp_shown.specs.declared.state.CellState.TheVariants.{Free, Claimed};
-ghost use Rattle.fp_shown.specs.Machine.{settled, settled_of, IsSeat, IsPending, MayClaim, MaySettle, MayCancel, MayQuit, IsAllowed, cell_of, state_of, Steps, state_at, IsPlayed, IsBoard, CancelledAreFree, ClosedHasResult};
+ghost use Rattle.fp_shown.specs.Machine.{settled, settled_of, IsSeat, IsPending, MayClaim, MaySettle, MayCancel, MayQuit, IsAllowed, cell_of, state_of, Steps, state_at, IsPlayed, IsBoard, ClosedStays, CancelledAreFree, ClosedHasResult};
 
 use crate::search::cell_shown;
 use crate::state::{CellState, Event};
@@ -260,7 +260,7 @@ impl Machine {
     }
 
     /// Does the events in order up to the first that isn't allowed, and answers how many were done.
-    pub fn play(&mut self, alloc: Global, events: &[Event]) -> Result<u32, AllocError>
+    fn play_events(&mut self, alloc: Global, events: &[Event]) -> Result<u32, AllocError>
         requires few { length events.now < 2 ^ 32 }
         ensures { IfOk result (λ n. IsPlayed self.old events.now self.new n) }
     {
@@ -273,8 +273,23 @@ impl Machine {
         Ok(events.len() as u32)
     }
 
+    /// Does the events in order up to the first that isn't allowed, and answers how many were done. A closed cell
+    /// stays as it is, each cancelled cell is free of effect, and where all cells are closed every filling of the
+    /// settled ones has the full matrix's result.
+    pub fn play(&mut self, alloc: Global, events: &[Event]) -> Result<u32, AllocError>
+        requires few { length events.now < 2 ^ 32 }
+        ensures played { IfOk result (λ n. IsPlayed self.old events.now self.new n) }
+        ensures stays { IfOk result (λ _. ClosedStays self.old.states self.new.states) }
+        ensures free { CancelledAreFree self.new }
+        ensures closed { ClosedHasResult self.new }
+    {
+        let played = self.play_events(alloc, events);
+        self.laws();
+        played
+    }
+
     /// What is so of every machine: each settled cell has its entry, each cancelled cell is shown by the settled
-    /// ones and free of effect, and where all cells are closed the column search has one result on every filling.
+    /// ones and free of effect, and where all cells are closed every filling has the full matrix's result.
     pub fn laws(&self)
         ensures board { IsBoard self.now.grid self.now.verdicts self.now.states }
         ensures free { CancelledAreFree self.now }

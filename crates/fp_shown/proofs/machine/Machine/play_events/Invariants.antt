@@ -1,6 +1,6 @@
 use Rattle.std.proofs.Common.{◌≡◌, take}
 use Rattle.fp_shown.specs.Machine.{Plays}
-use Rattle.fp_shown.proofs.machine.Machine.play.Given as goal
+use Rattle.fp_shown.proofs.machine.Machine.play_events.Given as goal
 
 abbrev pub invariant-loop-i : goal.invariant-loop-i
 invariant-loop-i l = record {

@@ -1,0 +1,2 @@
+pub mod AckFacts
+pub mod GreatestFacts
