@@ -11,5 +11,5 @@ longer old new name body (Ok th) d = λ older w. rw d.list (newer _ w)
 longer old new name body (Err fault) d = tt
 
 pub defined : (old new : List Def) (name : List ℕ) (body : Tm) (result : Result Theorem DefFault) → IfOk result (Defines old new name body) → IfOk result (λ th. Within th.defs new)
-defined old new name body (Ok th) d = rw (d.list, d.theorem) whole
+defined old new name body (Ok th) d = rw d.theorem whole
 defined old new name body (Err fault) d = tt
