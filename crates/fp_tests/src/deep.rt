@@ -1,6 +1,6 @@
 //! Terms of nearly as many levels as there may be: no call overflows the stack.
 
-use crate::terms::{small_signature, term};
+use crate::terms::term;
 use fp_full::print_full_term;
 use fp_match::match_term;
 use fp_term::{
@@ -75,11 +75,6 @@ fn is_matched(alloc: Global, deep: &Term, copy: &Term) -> Result<bool, AllocErro
 fn has_variables(alloc: Global, deep: &Term, number: usize) -> Result<bool, AllocError> {
     let known = free_variables(alloc, deep)?;
     Ok(first_free(deep).is_some() && known.as_slice().len() == number)
-}
-
-fn is_known(alloc: Global, deep: &Term) -> Result<bool, AllocError> {
-    let signature = small_signature(alloc)?;
-    Ok(signature.unknown_name(alloc, deep)?.is_none())
 }
 
 fn is_typed(alloc: Global, deep: &Term) -> Result<bool, AllocError> {
