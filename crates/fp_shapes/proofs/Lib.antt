@@ -1,0 +1,4 @@
+pub mod Lasts
+pub mod Placed
+pub mod Laws
+pub mod Bound

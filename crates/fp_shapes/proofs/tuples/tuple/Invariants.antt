@@ -1,0 +1,9 @@
+use Rattle.std.proofs.Common.{◌≡◌, ◌<◌, drop, length}
+use Rattle.fp_shapes.specs.Tuples.{tuple_type, tuple}
+use Rattle.fp_shapes.proofs.tuples.tuple.Given as goal
+
+abbrev pub invariant-loop-at : goal.invariant-loop-at
+invariant-loop-at l = (l.at < length l.tys) × (l.ty ≡ tuple_type (drop l.at l.tys)) × (l.made ≡ tuple (drop l.at l.tys) (drop l.at l.terms))
+
+abbrev pub decreases-loop-at : goal.decreases-loop-at
+decreases-loop-at l = l.at

@@ -1,0 +1,4 @@
+pub mod Binders
+pub mod Joined
+pub mod Tuples
+pub mod Sums
