@@ -1,0 +1,9 @@
+pub mod State
+pub mod Codes
+pub mod Start
+pub mod Places
+pub mod Tables
+pub mod Defining
+pub mod Changes
+pub mod Sound
+pub mod Declaring
