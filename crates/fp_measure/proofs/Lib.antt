@@ -1,0 +1,3 @@
+pub mod Measuring
+pub mod Generated
+pub mod Tested
