@@ -1,0 +1,12 @@
+pub mod Bound
+pub mod Lifted
+pub mod Stepping
+pub mod Joined
+pub mod Meant
+pub mod Ruled
+pub mod Amongst
+pub mod Combined
+pub mod Exchanged
+pub mod Specialized
+pub mod Conjoined
+pub mod Passed
