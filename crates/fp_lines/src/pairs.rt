@@ -1,0 +1,111 @@
+//! Variables with the terms, and type variables with the types, that come in their places.
+ghost use Rattle.std.specs.Prelude.{◌≡◌, [], ◌∷◌, ◌++◌, IfOk};
+ghost use Rattle.fp_kernel.specs.Start.{signature_of};
+ghost use Rattle.fp_infer.specs.Elaborated.{IsSound};
+ghost use Rattle.fp_lines.specs.Read.{paired};
+
+use crate::arguments::{term_in, variable_in};
+use crate::cause::LineCause;
+use crate::fault::LineFault;
+use crate::reading::{Setting, term_of, type_of};
+use fp_commands::Arg;
+use fp_raw::Raw;
+use fp_term::{Name, Node, Signature, Term, Ty};
+use std::alloc::{AllocError, Global};
+
+/// Are they variables, each with a term after it?
+pub(crate) fn are_term_pairs(signature: &Signature, args: &[Arg]) -> bool {
+    match args {
+        [] => true,
+        [x, t, rest @ ..] => {
+            variable_in(signature, x).is_some()
+                && term_in(t).is_some()
+                && are_term_pairs(signature, rest)
+        }
+        [_] => false,
+    }
+}
+
+/// Are they type variables, each with a type after it?
+pub(crate) fn are_type_pairs(args: &[Arg]) -> bool {
+    match args {
+        [] => true,
+        [Arg::TyVar(_), Arg::Ty(_), rest @ ..] => are_type_pairs(rest),
+        _ => false,
+    }
+}
+
+fn push_pair(
+    pairs: &mut Vec<(Name, Ty, Term)>,
+    variable: &Term,
+    term: Term,
+) -> Result<(), AllocError>
+    ensures { IfOk result (λ _. pairs.new.items ≡ pairs.old.items ++ paired variable.now term) }
+{
+    match variable.node() {
+        Node::Free { name, ty } => {
+            pairs.push((name.copy()?, ty.copy()?, term))?;
+            Ok(())
+        }
+        _ => Ok(()),
+    }
+}
+
+fn push_terms(
+    alloc: Global,
+    setting: &Setting<'_>,
+    pairs: &mut Vec<(Name, Ty, Term)>,
+    variable: &Raw,
+    term: &Raw,
+) -> Result<(), LineFault>
+    requires { IsSound (signature_of setting.now.defs.now) [] setting.now.given.now }
+{
+    let variable = term_of(alloc, setting, variable)?;
+    let term = term_of(alloc, setting, term)?;
+    push_pair(pairs, &variable, term)?;
+    Ok(())
+}
+
+/// Puts the variables with their terms at the end of the list.
+pub(crate) fn push_term_pairs(
+    alloc: Global,
+    setting: &Setting<'_>,
+    pairs: &mut Vec<(Name, Ty, Term)>,
+    args: &[Arg],
+) -> Result<(), LineFault>
+    requires { IsSound (signature_of setting.now.defs.now) [] setting.now.given.now }
+{
+    match args {
+        [] => Ok(()),
+        [Arg::Term(variable), Arg::Term(term), rest @ ..] => {
+            push_terms(alloc, setting, pairs, variable, term)?;
+            push_term_pairs(alloc, setting, pairs, rest)
+        }
+        _ => Err(LineFault::Bad(LineCause::BadArgs)),
+    }
+}
+
+fn push_type(pairs: &mut Vec<(Name, Ty)>, name: &Name, ty: Ty) -> Result<(), AllocError>
+    ensures { IfOk result (λ _. pairs.new.items ≡ pairs.old.items ++ (name.now, ty) ∷ []) }
+{
+    pairs.push((name.copy()?, ty))?;
+    Ok(())
+}
+
+/// Puts the type variables with their types at the end of the list.
+pub(crate) fn push_type_pairs(
+    alloc: Global,
+    signature: &Signature,
+    pairs: &mut Vec<(Name, Ty)>,
+    args: &[Arg],
+) -> Result<(), LineFault> {
+    match args {
+        [] => Ok(()),
+        [Arg::TyVar(name), Arg::Ty(ty), rest @ ..] => {
+            let ty = type_of(alloc, signature, ty)?;
+            push_type(pairs, name, ty)?;
+            push_type_pairs(alloc, signature, pairs, rest)
+        }
+        _ => Err(LineFault::Bad(LineCause::BadArgs)),
+    }
+}
