@@ -1,8 +1,9 @@
 -- What naming a theorem and going back make of a theory.
-use Rattle.std.specs.Prelude.{◌≡◌, ◌≤◌, ℕ, min, List, [], ◌∷◌, length, take, Option, Some, None, is_some, true, Result, Ok, Err}
+use Rattle.std.specs.Prelude.{◌≡◌, ◌≤◌, ℕ, min, List, [], ◌∷◌, ◌++◌, length, take, Option, Some, None, is_some, true, Result, Ok, Err}
 use Rattle.fp_term.specs.Terms.{Tm}
-use Rattle.fp_kernel.specs.Definitions.{oldest}
+use Rattle.fp_kernel.specs.Definitions.{Within, oldest}
 use Rattle.fp_kernel.specs.Theorems.{Theorem}
+use Rattle.fp_group.specs.declared.constructors.ConType.{ConType}
 use Rattle.fp_theory.specs.State.{State, found_theorem, with_theorem}
 use Rattle.fp_theory.specs.declared.fault.NoteFault.{NoteFault}
 use Rattle.fp_theory.specs.declared.fault.NoteFault.TheVariants.{NameTaken, HasPromise, NoMemory}
@@ -54,3 +55,11 @@ cut_to m state = record {
   congs = take m.congs state.congs;
   types = take m.types state.types;
 }
+
+-- each list has those of the other first
+pub record Extends (old new : State) : Type 0 where
+  pub defs : Within old.defs new.defs
+  pub named : (more : List (List ℕ × Theorem)) × (new.named ≡ old.named ++ more)
+  pub simps : (more : List (List ℕ)) × (new.simps ≡ old.simps ++ more)
+  pub congs : (more : List (List ℕ)) × (new.congs ≡ old.congs ++ more)
+  pub types : (more : List ConType) × (new.types ≡ old.types ++ more)
