@@ -1,5 +1,6 @@
 //! What stands in braces: a term of the full form within its limits, or why it is none.
-ghost use Rattle.std.specs.Prelude.{◌≡◌, ◌≤◌, length, IfSome};
+ghost use Rattle.std.specs.Prelude.{◌≡◌, ◌≤◌, length, IfSome, IfOk};
+ghost use Rattle.fp_syntax.specs.Words.{IsNoTerm, IsInside};
 
 use fp_full::{FullFault, read_full_term};
 use fp_raw::full;
@@ -164,7 +165,10 @@ fn is_full_form(alloc: Global, bytes: &[u8]) -> Result<bool, AllocError> {
 }
 
 // A limit that is passed at the place inside, where the bytes are a term at all.
-fn past_limit(alloc: Global, bytes: &[u8], limit: Result<u32, u32>) -> Result<Braces, AllocError> {
+fn past_limit(alloc: Global, bytes: &[u8], limit: Result<u32, u32>) -> Result<Braces, AllocError>
+    requires { IsNoTerm bytes.now }
+    ensures { IfOk result (λ b. IsInside 0 bytes.now b) }
+{
     if !is_full_form(alloc, bytes)? {
         return Ok(Braces::Malformed);
     }
@@ -181,7 +185,9 @@ fn place_inside(at: u32, inside: u32) -> Result<u32, AllocError> {
 }
 
 /// What the bytes between braces are, of which the first stands at the place.
-pub(crate) fn in_braces(alloc: Global, bytes: &[u8], at: u32) -> Result<Braces, AllocError> {
+pub(crate) fn in_braces(alloc: Global, bytes: &[u8], at: u32) -> Result<Braces, AllocError>
+    ensures { IfOk result (λ b. IsInside at bytes.now b) }
+{
     if bytes.len() >= 4294967296 {
         return Err(AllocError);
     }

@@ -1,6 +1,8 @@
 //! Each token's word.
-ghost use Rattle.std.specs.Prelude.{◌≡◌, IfOk};
-ghost use Rattle.fp_syntax.specs.Words.{always, number};
+ghost use Rattle.std.specs.Prelude.{◌≡◌, ◌-◌, cond, take, drop, length, IfOk, IfSome, Some, false};
+ghost use Rattle.std.specs.Str.{bytes_eq};
+ghost use Rattle.fp_syntax.specs.Words.{always, keyword, symbol, number, name_word, IsWord, AreWords, text_of};
+ghost use Rattle.fp_lex.specs.Lexes.{quoted_after};
 
 use crate::braces::in_braces;
 use fp_lex::{Token, TokenKind};
@@ -23,70 +25,77 @@ fn always_reserved(text: &[u8]) -> Option<Word>
     }
 }
 
-// The words that are reserved outside quotes.
-const KEYWORDS: [(&[u8], Keyword); 17] = [
-    (b"definition", Keyword::Definition),
-    (b"typedef", Keyword::Typedef),
-    (b"lemma", Keyword::Lemma),
-    (b"simp", Keyword::Simp),
-    (b"cong", Keyword::Cong),
-    (b"constructors", Keyword::Constructors),
-    (b"size", Keyword::Size),
-    (b"measure", Keyword::Measure),
-    (b"fun", Keyword::Fun),
-    (b"function", Keyword::Function),
-    (b"and", Keyword::And),
-    (b"where", Keyword::Where),
-    (b"proof", Keyword::Proof),
-    (b"end", Keyword::End),
-    (b"abs", Keyword::Abs),
-    (b"rep", Keyword::Rep),
-    (b"by", Keyword::By),
-];
-
-fn reserved(text: &[u8]) -> Option<Keyword> {
-    for (spelled, keyword) in KEYWORDS {
-        if text == spelled {
-            return Some(keyword);
-        }
-    }
-    None
-}
-
-fn short_symbol(byte: u8) -> Word {
-    match byte {
-        b'<' => Word::Between(Infix::Less),
-        b'=' => Word::Between(Infix::Equal),
-        b'+' => Word::Between(Infix::Plus),
-        b'-' => Word::Between(Infix::Minus),
-        b'*' => Word::Between(Infix::Times),
-        b'~' => Word::Negation,
-        b'!' => Word::Binds(Binder::All),
-        b'?' => Word::Binds(Binder::Some),
-        b'@' => Word::Binds(Binder::Select),
-        b'%' => Word::Binds(Binder::Lambda),
-        b'.' => Word::Dot,
-        b',' => Word::Comma,
-        b'(' => Word::Open,
-        b')' => Word::Close,
-        b'|' => Word::Bar,
-        b';' => Word::Semicolon,
-        b':' => Word::Colon,
-        b'[' => Word::OpenBracket,
-        _ => Word::CloseBracket,
+// The keyword where the text spells it, and otherwise what was found.
+fn spelled_or(
+    text: &[u8],
+    spelling: &[u8],
+    keyword: Keyword,
+    found: Option<Keyword>,
+) -> Option<Keyword>
+    ensures { result ≡ cond (bytes_eq text.now spelling.now) (Some keyword) found }
+{
+    if text == spelling {
+        Some(keyword)
+    } else {
+        found
     }
 }
 
-fn symbol_of(text: &[u8]) -> Word {
+// A word that is reserved outside quotes.
+fn reserved(text: &[u8]) -> Option<Keyword>
+    ensures { result ≡ keyword text.now }
+{
+    let found = None;
+    let found = spelled_or(text, b"by", Keyword::By, found);
+    let found = spelled_or(text, b"rep", Keyword::Rep, found);
+    let found = spelled_or(text, b"abs", Keyword::Abs, found);
+    let found = spelled_or(text, b"end", Keyword::End, found);
+    let found = spelled_or(text, b"proof", Keyword::Proof, found);
+    let found = spelled_or(text, b"where", Keyword::Where, found);
+    let found = spelled_or(text, b"and", Keyword::And, found);
+    let found = spelled_or(text, b"function", Keyword::Function, found);
+    let found = spelled_or(text, b"fun", Keyword::Fun, found);
+    let found = spelled_or(text, b"measure", Keyword::Measure, found);
+    let found = spelled_or(text, b"size", Keyword::Size, found);
+    let found = spelled_or(text, b"constructors", Keyword::Constructors, found);
+    let found = spelled_or(text, b"cong", Keyword::Cong, found);
+    let found = spelled_or(text, b"simp", Keyword::Simp, found);
+    let found = spelled_or(text, b"lemma", Keyword::Lemma, found);
+    let found = spelled_or(text, b"typedef", Keyword::Typedef, found);
+    let found = spelled_or(text, b"definition", Keyword::Definition, found);
+    found
+}
+
+fn symbol_of(text: &[u8]) -> Option<Word>
+    ensures { result ≡ symbol text.now }
+{
     match text {
-        [b'-', b'-', b'>'] => Word::Between(Infix::Implies),
-        [b'\\', b'/'] => Word::Between(Infix::Disj),
-        [b'/', b'\\'] => Word::Between(Infix::Conj),
-        [b':', b':'] => Word::Colons,
-        [b'=', b'>'] => Word::Between(Infix::Arrow),
-        [b'<', b'='] => Word::Between(Infix::Leq),
-        [byte, ..] => short_symbol(*byte),
-        [] => Word::CloseBracket,
+        b"-->" => Some(Word::Between(Infix::Implies)),
+        b"\\/" => Some(Word::Between(Infix::Disj)),
+        b"/\\" => Some(Word::Between(Infix::Conj)),
+        b"::" => Some(Word::Colons),
+        b"=>" => Some(Word::Between(Infix::Arrow)),
+        b"<=" => Some(Word::Between(Infix::Leq)),
+        b"<" => Some(Word::Between(Infix::Less)),
+        b"=" => Some(Word::Between(Infix::Equal)),
+        b"+" => Some(Word::Between(Infix::Plus)),
+        b"-" => Some(Word::Between(Infix::Minus)),
+        b"*" => Some(Word::Between(Infix::Times)),
+        b"~" => Some(Word::Negation),
+        b"!" => Some(Word::Binds(Binder::All)),
+        b"?" => Some(Word::Binds(Binder::Some)),
+        b"@" => Some(Word::Binds(Binder::Select)),
+        b"%" => Some(Word::Binds(Binder::Lambda)),
+        b"." => Some(Word::Dot),
+        b"," => Some(Word::Comma),
+        b"(" => Some(Word::Open),
+        b")" => Some(Word::Close),
+        b"|" => Some(Word::Bar),
+        b";" => Some(Word::Semicolon),
+        b":" => Some(Word::Colon),
+        b"[" => Some(Word::OpenBracket),
+        b"]" => Some(Word::CloseBracket),
+        _ => None,
     }
 }
 
@@ -113,7 +122,9 @@ fn name_of(alloc: Global, text: &[u8]) -> Result<Name, AllocError>
     }
 }
 
-fn name_word(alloc: Global, text: &[u8], quoted: bool) -> Result<Word, AllocError> {
+fn name_word(alloc: Global, text: &[u8], quoted: bool) -> Result<Word, AllocError>
+    ensures { IfOk result (λ w. w ≡ name_word quoted text.now) }
+{
     if let Some(word) = always_reserved(text) {
         return Ok(word);
     }
@@ -125,6 +136,16 @@ fn name_word(alloc: Global, text: &[u8], quoted: bool) -> Result<Word, AllocErro
     Ok(Word::Name(name_of(alloc, text)?))
 }
 
+// The text without its first and last bytes.
+fn inside(text: &[u8]) -> Option<&[u8]>
+    ensures { IfSome result (λ inner. inner.now ≡ take (length text.now - 1 - 1) (drop 1 text.now)) }
+{
+    if text.len() < 2 {
+        return None;
+    }
+    Some(&text[1..text.len() - 1])
+}
+
 // What the bytes of a token are.
 fn word_of(
     alloc: Global,
@@ -132,7 +153,9 @@ fn word_of(
     text: &[u8],
     at: u32,
     is_quoted: bool,
-) -> Result<Word, AllocError> {
+) -> Result<Word, AllocError>
+    ensures { IfOk result (λ w. IsWord kind is_quoted text.now at w) }
+{
     match kind {
         TokenKind::Name => name_word(alloc, text, is_quoted),
         TokenKind::TyVar => match text {
@@ -141,22 +164,26 @@ fn word_of(
         },
         TokenKind::Number => Ok(Word::Number(number_of(text))),
         TokenKind::Quote => Ok(Word::Quote),
-        TokenKind::Braces => match text {
-            [_, inside @ .., _] => Ok(Word::Braces(in_braces(alloc, inside, at)?)),
-            _ => Err(AllocError),
+        TokenKind::Braces => match inside(text) {
+            Some(inside) => Ok(Word::Braces(in_braces(alloc, inside, at)?)),
+            None => Err(AllocError),
         },
-        TokenKind::Symbol => Ok(symbol_of(text)),
+        TokenKind::Symbol => symbol_of(text).ok_or(AllocError),
     }
 }
 
-fn is_quoted_after(kind: TokenKind, is_quoted: bool) -> bool {
+fn is_quoted_after(kind: TokenKind, is_quoted: bool) -> bool
+    ensures { result ≡ quoted_after kind is_quoted }
+{
     match kind {
         TokenKind::Quote => !is_quoted,
         _ => is_quoted,
     }
 }
 
-fn text_of(bytes: &[u8], token: Token) -> Result<&[u8], AllocError> {
+fn text_of(bytes: &[u8], token: Token) -> Result<&[u8], AllocError>
+    ensures { IfOk result (λ text. text.now ≡ text_of bytes.now token) }
+{
     let from = token.from as usize;
     let to = token.to as usize;
     if from <= to && to <= bytes.len() {
@@ -167,7 +194,13 @@ fn text_of(bytes: &[u8], token: Token) -> Result<&[u8], AllocError> {
 }
 
 /// The words of the tokens of a file.
-pub fn words(alloc: Global, bytes: &[u8], tokens: &[Token]) -> Result<Vec<Placed>, AllocError> {
+pub(crate) fn words(
+    alloc: Global,
+    bytes: &[u8],
+    tokens: &[Token],
+) -> Result<Vec<Placed>, AllocError>
+    ensures { IfOk result (λ words. AreWords bytes.now false tokens.now words.items) }
+{
     let mut words = Vec::new(alloc);
     let mut is_quoted = false;
     for token in tokens {

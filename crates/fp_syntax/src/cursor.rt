@@ -1,5 +1,8 @@
 //! A place between two words of a file, and what may stand there.
-ghost use Rattle.std.specs.Prelude.{◌≡◌, ◌≤◌, ◌<◌, ◌++◌, ◌∷◌, [], length, OnOk};
+ghost use Rattle.std.specs.Prelude.{◌≡◌, ◌≤◌, ◌<◌, length, true, OnOk, IfOk, IfSome};
+ghost use Rattle.fp_words.specs.declared.word.Word.TheVariants.{Name as name_word};
+ghost use Rattle.fp_commands.specs.Grammar.{WordAt, NameAt};
+ghost use Rattle.fp_syntax.specs.Signs.{sign_word};
 ghost use Rattle.fp_syntax.specs.declared.cursor.SyntaxFault.TheVariants.{NoMemory};
 
 use fp_term::Name;
@@ -31,14 +34,6 @@ impl From<AllocError> for SyntaxFault {
     }
 }
 
-/// Puts an item at the end.
-pub(crate) fn push<T: Drop>(items: &mut Vec<T>, item: T) -> Result<(), AllocError>
-    ensures { OnOk result (items.new.items ≡ items.old.items ++ item ∷ []) }
-{
-    items.push(item)?;
-    Ok(())
-}
-
 /// The words that are left, and the length of the file.
 #[derive(Clone, Copy)]
 pub(crate) struct Cursor<'a> {
@@ -58,9 +53,18 @@ pub(crate) enum Sign {
     Quote,
     OpenBracket,
     CloseBracket,
+    And,
+    Where,
+    Proof,
+    End,
+    Abs,
+    Rep,
+    By,
 }
 
-fn is_sign(word: &Word, sign: Sign) -> bool {
+fn is_sign(word: &Word, sign: Sign) -> bool
+    ensures { result ≡ true → word.now ≡ sign_word sign }
+{
     match sign {
         Sign::Equals => matches!(word, Word::Between(Infix::Equal)),
         Sign::Colon => matches!(word, Word::Colon),
@@ -71,6 +75,22 @@ fn is_sign(word: &Word, sign: Sign) -> bool {
         Sign::Quote => matches!(word, Word::Quote),
         Sign::OpenBracket => matches!(word, Word::OpenBracket),
         Sign::CloseBracket => matches!(word, Word::CloseBracket),
+        Sign::And => matches!(word, Word::Reserved(Keyword::And)),
+        Sign::Where => matches!(word, Word::Reserved(Keyword::Where)),
+        Sign::Proof => matches!(word, Word::Reserved(Keyword::Proof)),
+        Sign::End => matches!(word, Word::Reserved(Keyword::End)),
+        Sign::Abs => matches!(word, Word::Reserved(Keyword::Abs)),
+        Sign::Rep => matches!(word, Word::Reserved(Keyword::Rep)),
+        Sign::By => matches!(word, Word::Reserved(Keyword::By)),
+    }
+}
+
+fn as_name(word: &Word) -> Option<&Name>
+    ensures { IfSome result (λ name. word.now ≡ name_word name.now) }
+{
+    match word {
+        Word::Name(name) => Some(name),
+        _ => None,
     }
 }
 
@@ -100,83 +120,46 @@ pub(crate) fn refused(cursor: &Cursor<'_>) -> SyntaxFault {
 }
 
 pub(crate) fn is_at(cursor: &Cursor<'_>, sign: Sign) -> bool {
-    match cursor.rest {
-        [placed, ..] => is_sign(&placed.word, sign),
-        [] => false,
+    match cursor.rest.first() {
+        Some(placed) => is_sign(&placed.word, sign),
+        None => false,
     }
 }
 
 pub(crate) fn is_at_name(cursor: &Cursor<'_>) -> bool {
-    matches!(
-        cursor.rest,
-        [
-            Placed {
-                word: Word::Name(_),
-                ..
-            },
-            ..
-        ]
-    )
-}
-
-pub(crate) fn is_at_keyword(cursor: &Cursor<'_>, wanted: Keyword) -> bool {
-    match cursor.rest {
-        [
-            Placed {
-                word: Word::Reserved(keyword),
-                ..
-            },
-            ..
-        ] => *keyword as u8 == wanted as u8,
-        _ => false,
+    match cursor.rest.first() {
+        Some(placed) => as_name(&placed.word).is_some(),
+        None => false,
     }
 }
 
 /// Goes on behind the sign.
+#[tactic(auto, using(fp_commands::proofs::Steps::at_front))]
 pub(crate) fn take_sign(cursor: &mut Cursor<'_>, sign: Sign) -> Result<(), SyntaxFault>
-    ensures { OnOk result (length cursor.new.rest.now < length cursor.old.rest.now) }
+    ensures reads { OnOk result (WordAt (sign_word sign) cursor.old.rest.now cursor.new.rest.now) }
+    ensures shorter { OnOk result (length cursor.new.rest.now < length cursor.old.rest.now) }
 {
-    match cursor.rest {
-        [placed, rest @ ..] if is_sign(&placed.word, sign) => {
+    if let Some((placed, rest)) = cursor.rest.split_first() {
+        if is_sign(&placed.word, sign) {
             cursor.rest = rest;
-            Ok(())
+            return Ok(());
         }
-        _ => Err(refused(cursor)),
     }
-}
-
-/// Goes on behind the reserved word.
-pub(crate) fn take_keyword(cursor: &mut Cursor<'_>, wanted: Keyword) -> Result<(), SyntaxFault>
-    ensures { OnOk result (length cursor.new.rest.now < length cursor.old.rest.now) }
-{
-    if !is_at_keyword(cursor, wanted) {
-        return Err(refused(cursor));
-    }
-    match cursor.rest {
-        [_, rest @ ..] => {
-            cursor.rest = rest;
-            Ok(())
-        }
-        [] => Err(refused(cursor)),
-    }
+    Err(refused(cursor))
 }
 
 /// The name that stands there; goes on behind it.
+#[tactic(auto, using(fp_commands::proofs::Steps::name_front))]
 pub(crate) fn take_name(cursor: &mut Cursor<'_>) -> Result<Name, SyntaxFault>
-    ensures { OnOk result (length cursor.new.rest.now < length cursor.old.rest.now) }
+    ensures reads { IfOk result (λ x. NameAt cursor.old.rest.now x cursor.new.rest.now) }
+    ensures shorter { OnOk result (length cursor.new.rest.now < length cursor.old.rest.now) }
 {
-    match cursor.rest {
-        [
-            Placed {
-                word: Word::Name(name),
-                ..
-            },
-            rest @ ..,
-        ] => {
+    if let Some((placed, rest)) = cursor.rest.split_first() {
+        if let Some(name) = as_name(&placed.word) {
             let name = name.copy()?;
             cursor.rest = rest;
-            Ok(name)
+            return Ok(name);
         }
-        _ => Err(refused(cursor)),
     }
+    Err(refused(cursor))
 }

@@ -3,12 +3,11 @@
 
 mod braces;
 mod classify;
-mod command;
 mod cursor;
 mod line;
 mod reader;
 mod written;
 
-pub use command::{Arg, Body, Command, Head, Line};
 pub use cursor::SyntaxFault;
-pub use reader::read_file;
+pub use fp_commands::{Arg, Body, Command, Head, Line};
+pub use reader::{file_is_one_list, read_file};

@@ -1,6 +1,6 @@
-use Rattle.std.proofs.Common.{◌≡◌, ◌+◌, ◌-◌, ◌*◌, ◌<◌, ◌≤◌, ℕ, suc, min, List, [], ◌∷◌, length, drop, get_or, refl, sym, arith, drop-cons}
+use Rattle.std.proofs.Common.{◌≡◌, ◌+◌, ◌-◌, ◌*◌, ◌<◌, ◌≤◌, ℕ, suc, min, List, [], ◌∷◌, length, drop, get_or, arith, drop-cons}
 use Rattle.std.proofs.lemmas.Bool.Decides.{nat_tests}
-use Rattle.fp_syntax.specs.Words.{read_on, number}
+use Rattle.fp_syntax.specs.Words.{read_on}
 use Rattle.fp_syntax.proofs.classify.number_of.Goals as goal
 
 grows : (ds : List ℕ) (n : ℕ) → n ≤ read_on n ds

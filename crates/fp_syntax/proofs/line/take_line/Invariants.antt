@@ -1,8 +1,9 @@
 use Rattle.std.proofs.Common.{◌≤◌, length}
+use Rattle.fp_commands.specs.Grammar.{Many, ArgAt, file_limits}
 use Rattle.fp_syntax.proofs.line.take_line.Given as goal
 
 abbrev pub invariant-loop-alloc : goal.invariant-loop-alloc
-invariant-loop-alloc l = length l.cursor.rest.now ≤ length l.initial.cursor.rest.now
+invariant-loop-alloc l = (length l.cursor.rest.now ≤ length l.initial.cursor.rest.now) × Many (ArgAt file_limits) l.initial.cursor.rest.now l.args l.cursor.rest.now
 
 abbrev pub decreases-loop-alloc : goal.decreases-loop-alloc
 decreases-loop-alloc l = length l.cursor.rest.now

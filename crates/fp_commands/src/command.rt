@@ -1,6 +1,6 @@
 //! Commands as they are written.
 use fp_raw::{Raw, RawType};
-use fp_term::Name;
+use fp_term::{Items, Name};
 
 /// An argument of a proof line.
 #[derive(Drop)]
@@ -17,7 +17,7 @@ pub enum Arg {
 #[derive(Drop)]
 pub struct Line {
     pub name: Name,
-    pub args: Vec<Arg>,
+    pub args: Items<Arg>,
 }
 
 /// A function of a group with its written type.
@@ -43,13 +43,13 @@ pub enum Body {
     Lemma {
         name: Name,
         statement: Raw,
-        lines: Vec<Line>,
+        lines: Items<Line>,
     },
     Simp(Name),
     Cong(Name),
     Constructors {
         ty: Name,
-        cons: Vec<Name>,
+        cons: Items<Name>,
     },
     Size {
         ty: RawType,
@@ -60,12 +60,12 @@ pub enum Body {
         term: Raw,
     },
     Fun {
-        heads: Vec<Head>,
-        clauses: Vec<Raw>,
+        heads: Items<Head>,
+        clauses: Items<Raw>,
     },
     Function {
-        heads: Vec<Head>,
-        clauses: Vec<Raw>,
+        heads: Items<Head>,
+        clauses: Items<Raw>,
     },
 }
 

@@ -1,0 +1,5 @@
+pub mod Steps
+pub mod Split
+pub mod Unique
+pub mod Good
+pub mod Short

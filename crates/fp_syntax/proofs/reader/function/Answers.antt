@@ -1,0 +1,5 @@
+use Rattle.fp_commands.specs.Grammar.{function_group}
+use Rattle.fp_syntax.proofs.reader.function.Goals as goal
+
+pub returns-clause-reads : goal.returns-clause-reads
+returns-clause-reads c = function_group c.in_ok-heads.ensures.reads c.in_ok-take_sign.ensures.reads c.in_ok-clauses.ensures.reads
