@@ -20,10 +20,13 @@ fn template(word: u64) -> &'static str
     ensures { result.now ≡ template (kind_of word) }
 {
     match word / 8589934592 % 4 {
-        0 => "fun % :: \"nat => nat => nat\" where \"% 0 y = y\" | \"% (Suc x) 0 = % x 1\" | \"% (Suc x) (Suc y) = % x (% (Suc x) y)\"",
+        0 =>
+            "fun % :: \"nat => nat => nat\" where \"% 0 y = y\" | \"% (Suc x) 0 = % x 1\" | \"% (Suc x) (Suc y) = % x (% (Suc x) y)\"",
         1 => "fun % :: \"nat => nat => nat\" where \"% (Suc x) (Suc y) = % y x\"",
-        2 => "fun % :: \"nat => nat\" where \"% 0 = 0\" | \"% (Suc 0) = 0\" | \"% (Suc (Suc x)) = Suc (% x)\"",
-        _ => "fun % :: \"nat => nat => nat\" where \"% x y = (if y = 0 then x else % y (mod x y))\"",
+        2 =>
+            "fun % :: \"nat => nat\" where \"% 0 = 0\" | \"% (Suc 0) = 0\" | \"% (Suc (Suc x)) = Suc (% x)\"",
+        _ =>
+            "fun % :: \"nat => nat => nat\" where \"% x y = (if y = 0 then x else % y (mod x y))\"",
     }
 }
 
