@@ -33,7 +33,7 @@ line_of word i = filled (function i) (template (kind_of word)) ++ 10 ∷ []
 -- n lines more, behind the i-th, whose word this was
 abbrev pub lines_after : ℕ → ℕ → ℕ → List ℕ
 lines_after i word zero = []
-lines_after i word (suc n) = line_of (next_word word) (suc i) ++ lines_after (suc i) (next_word word) n
+lines_after i word (suc n) = line_of (next_word word) (i + 1) ++ lines_after (i + 1) (next_word word) n
 
 abbrev pub large_theory : ℕ → ℕ → List ℕ
 large_theory n seed = lines_after 0 seed n
