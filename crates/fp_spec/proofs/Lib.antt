@@ -4,3 +4,4 @@ pub mod Within
 pub mod Missing
 pub mod Fresh
 pub mod Renamings
+pub mod Lettering

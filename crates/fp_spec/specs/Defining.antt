@@ -8,7 +8,7 @@ use Rattle.fp_group.specs.declared.clause.Head.{Head}
 use Rattle.fp_group.specs.declared.group.Group.{Group}
 use Rattle.fp_spec.specs.declared.letters.Letters.{Letters}
 use Rattle.fp_shapes.specs.Binders.{Variables, lambdas, for_somes, for_alls}
-use Rattle.fp_spec.specs.Helpers.{names_in, helper}
+use Rattle.fp_spec.specs.Helpers.{names_in, helper, AreUnused, AreDifferent}
 use Rattle.fp_spec.specs.Heads.{argument_sum, result_sum, family_type, parameters, in_term, result_out}
 use Rattle.fp_spec.specs.Relations.{some_clause, some_row}
 
@@ -83,6 +83,14 @@ letters_by known heads = record {
   z = (helper known 3, argument_sum heads);
   relation = (helper known 4, relation_type (argument_sum heads) (result_sum heads));
 }
+
+abbrev pub letter_names : Letters → List (List ℕ)
+letter_names l = l.h.0 ∷ l.x.0 ∷ l.y.0 ∷ l.z.0 ∷ l.relation.0 ∷ []
+
+-- the letters' names are none of the known ones, and different
+pub record AreNew (known : List (List ℕ)) (l : Letters) : Type 0 where
+  pub unused : AreUnused known (letter_names l)
+  pub different : AreDifferent (letter_names l)
 
 abbrev pub letters_of : Group → Letters
 letters_of g = letters_by (names_in g) g.heads

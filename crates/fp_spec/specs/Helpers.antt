@@ -1,5 +1,5 @@
 -- Names that occur nowhere in a group.
-use Rattle.std.specs.Prelude.{ℕ, suc, zero, ◌+◌, if◌then◌else◌, List, [], ◌∷◌, ◌++◌, length, map, codes}
+use Rattle.std.specs.Prelude.{◌≡◌, ℕ, false, suc, zero, ◌+◌, if◌then◌else◌, List, [], ◌∷◌, ◌++◌, length, map, codes}
 use Rattle.fp_term.specs.Names.{numbered}
 use Rattle.fp_term.specs.Types.{Typ}
 use Rattle.fp_term.specs.Variables.{is_among}
@@ -40,3 +40,13 @@ helper_number known (suc n) = unused_from known (length known) (helper_number kn
 -- the unknown candidates in their order, from 0 on
 abbrev pub helper : List (List ℕ) → ℕ → List ℕ
 helper known n = candidate (helper_number known n)
+
+-- none of the names is known
+abbrev pub AreUnused : List (List ℕ) → List (List ℕ) → Type 0
+AreUnused known [] = Unit {0}
+AreUnused known (name ∷ names) = (is_among known name ≡ false) × AreUnused known names
+
+-- none stands twice
+abbrev pub AreDifferent : List (List ℕ) → Type 0
+AreDifferent [] = Unit {0}
+AreDifferent (name ∷ names) = (is_among names name ≡ false) × AreDifferent names

@@ -1,5 +1,5 @@
 //! Names that occur nowhere in a group.
-ghost use Rattle.std.specs.Prelude.{◌≡◌, ◌++◌, ◌+◌, length, map, IfOk, OnOk};
+ghost use Rattle.std.specs.Prelude.{◌≡◌, ◌<◌, ◌^◌, ◌++◌, ◌+◌, length, map, IfOk, OnOk};
 ghost use Rattle.fp_term.specs.Variables.{is_among};
 ghost use Rattle.fp_cong.specs.Rows.{names_of, all_names};
 ghost use Rattle.fp_spec.specs.Helpers.{names_in_clauses, names_in_site, names_in_sites, names_in, candidate, unused_from, helper_number, helper};
@@ -126,7 +126,8 @@ fn helper_number(alloc: Global, known: &[Name], count: u32) -> Result<u32, Alloc
 
 /// The unknown one of `a1`, `a2`, .. that so many unknown ones come before.
 pub fn helper(alloc: Global, known: &[Name], count: u32) -> Result<Name, AllocError>
-    ensures { IfOk result (λ name. name ≡ helper known.now count) }
+    ensures exact { IfOk result (λ name. name ≡ helper known.now count) }
+    ensures low { IfOk result (λ _. helper_number known.now count < 2 ^ 32) }
 {
     candidate(alloc, helper_number(alloc, known, count)?)
 }

@@ -1,7 +1,7 @@
 //! The variables with which the definitions of a group are written.
-ghost use Rattle.std.specs.Prelude.{◌≡◌, map, IfOk};
-ghost use Rattle.fp_spec.specs.Helpers.{helper};
-ghost use Rattle.fp_spec.specs.Defining.{relation_type, letters_by, letters_of, as_term, as_terms};
+ghost use Rattle.std.specs.Prelude.{◌≡◌, ◌<◌, ◌^◌, map, IfOk};
+ghost use Rattle.fp_spec.specs.Helpers.{helper, helper_number, names_in};
+ghost use Rattle.fp_spec.specs.Defining.{relation_type, letters_by, letters_of, AreNew, as_term, as_terms};
 
 use crate::heads::{argument_sum, family_type, result_sum};
 use crate::helpers::{helper, names_in};
@@ -35,13 +35,15 @@ pub(crate) fn relation_type(alloc: Global, left: &Ty, right: &Ty) -> Result<Ty, 
 }
 
 fn letter(alloc: Global, known: &[Name], count: u32, ty: Ty) -> Result<(Name, Ty), AllocError>
-    ensures { IfOk result (λ v. v ≡ (helper known.now count, ty)) }
+    ensures exact { IfOk result (λ v. v ≡ (helper known.now count, ty)) }
+    ensures low { IfOk result (λ _. helper_number known.now count < 2 ^ 32) }
 {
     Ok((helper(alloc, known, count)?, ty))
 }
 
 fn letters_by(alloc: Global, known: &[Name], heads: &[Head]) -> Result<Letters, AllocError>
-    ensures { IfOk result (λ l. l ≡ letters_by known.now heads.now) }
+    ensures exact { IfOk result (λ l. l ≡ letters_by known.now heads.now) }
+    ensures low { IfOk result (λ _. helper_number known.now 4 < 2 ^ 32) }
 {
     let from = argument_sum(alloc, heads)?;
     let to = result_sum(alloc, heads)?;
@@ -59,9 +61,11 @@ fn letters_by(alloc: Global, known: &[Name], heads: &[Head]) -> Result<Letters, 
     })
 }
 
-/// The variables of a group.
+/// The variables of a group. Their names are different, and none occurs in the group.
+#[tactic(auto, using(crate::proofs::Lettering::letters_are_new))]
 pub fn letters_of(alloc: Global, group: &Group) -> Result<Letters, AllocError>
-    ensures { IfOk result (λ l. l ≡ letters_of group.now) }
+    ensures exact { IfOk result (λ l. l ≡ letters_of group.now) }
+    ensures new { IfOk result (λ l. AreNew (names_in group.now) l) }
 {
     let known = names_in(alloc, group)?;
     letters_by(alloc, known.as_slice(), group.heads.as_slice())
