@@ -4,6 +4,7 @@ use Rattle.std.specs.Prelude.{◌==◌, Option, Some, None, Result, Ok, Err, IfO
 use Rattle.std.proofs.Math.ListN.{drop_of_length-le}
 use Rattle.std.proofs.lemmas.Option.{none-some, same_Some}
 use Rattle.fp_kernel.specs.Definitions.{Def, Within, whole}
+use Rattle.fp_term.specs.Types.{Typ}
 use Rattle.fp_term.specs.Terms.{Tm}
 use Rattle.fp_kernel.specs.Theorems.{Theorem, plain}
 use Rattle.fp_commands.specs.declared.command.Line.{Line}
@@ -11,7 +12,9 @@ use Rattle.fp_line_rules.specs.Standing.{IsUsable, IsLine, AreLines}
 use Rattle.fp_line_rules.specs.Rules.{Told}
 use Rattle.fp_lines.specs.Read.{Answer, line_numbered}
 use Rattle.fp_lines.specs.Lines.{told}
-use Rattle.fp_lines.specs.Checks.{IsEnd}
+use Rattle.fp_lines.specs.Checks.{IsEnd, EndFails, Gives, LineFails, Goes, Leads, next, fails, ends_otherwise, wanting}
+use Rattle.fp_lines.specs.declared.fault.ProofFault.{ProofFault}
+use Rattle.fp_lines.specs.declared.fault.ProofFault.TheVariants.{BadRuleName, BadLine, WrongEnd, NoMemory}
 
 told_is : (defs : List Def) (q : Told) → IfOk q (IsLine defs) → IfOk (told q) (IsLine defs)
 told_is defs (Ok th) h = h
@@ -65,3 +68,27 @@ left_at ls i l h e = rw add-one (left_from ls i l h e)
 
 pub left_none : (ls : List Line) (i : ℕ) → length ls ≤ i → drop i ls ≡ []
 left_none ls i h = rw (drop_of_length-le ls h) refl
+
+-- one line more leads on
+pub leads_on : (defs : List Def) (named : List (List ℕ × Theorem)) (given : List (List ℕ × Typ)) (statement : Tm) (before : List Theorem) (n : ℕ) (ls : List Line) (i : ℕ) (l : Line) (th : Theorem) →
+    i < length ls → l ≡ get_or ls i l → Gives (record { defs = defs; named = named; given = given; before = before }) l th →
+    Leads defs named given statement before n (drop i ls) ls → Leads defs named given statement (before ++ th ∷ []) (n + 1) (drop (i + 1) ls) ls
+leads_on defs named given statement before n ls i l th h e g k = λ r goes. k r (rw (left_at ls i l h e) (next th g goes))
+
+-- and where a line fails, that comes of all
+pub leads_to_fault : (defs : List Def) (named : List (List ℕ × Theorem)) (given : List (List ℕ × Typ)) (statement : Tm) (before : List Theorem) (n : ℕ) (ls : List Line) (i : ℕ) (l : Line) (f : ProofFault) →
+    i < length ls → l ≡ get_or ls i l → LineFails (record { defs = defs; named = named; given = given; before = before }) l n f →
+    Leads defs named given statement before n (drop i ls) ls → Goes defs named given statement [] 1 ls (Err f)
+leads_to_fault defs named given statement before n ls i l f h e g k = k (Err f) (rw (left_at ls i l h e) (fails g))
+
+-- what comes of a last theorem that isn't the statement
+pub otherwise : (defs : List Def) (named : List (List ℕ × Theorem)) (given : List (List ℕ × Typ)) (statement : Tm) (before : List Theorem) (n : ℕ) (th : Theorem) (f : ProofFault) →
+    (IsEnd statement th → ⊥) → EndFails th f → Goes defs named given statement (before ++ th ∷ []) n [] (Err f)
+otherwise defs named given statement before n th (BadRuleName line) other h = absurd h
+otherwise defs named given statement before n th (BadLine line cause) other h = absurd h
+otherwise defs named given statement before n th (WrongEnd None) other h = absurd h
+otherwise defs named given statement before n th (WrongEnd (Some s)) other h = ends_otherwise before th other h
+otherwise defs named given statement before n th NoMemory other h = wanting
+
+pub not_true : {A : Type 0} (b : Bool) → (A → b ≡ true) → b ≡ false → A → ⊥
+not_true b k e x = let t = k x in cc

@@ -127,5 +127,5 @@ LineBy s (rule.Variable k) args r = LineOfVariable s k args r
 LineBy s rule.Exists args r = LineOfExistence s args r
 LineBy s rule.Choose args r = LineOfChoice s args r
 LineBy s rule.Cases args r = LineOfCases s args r
-LineBy s rule.Inst args r = LineOfInstance s args r
-LineBy s rule.InstTy args r = LineOfTypeInstance s args r
+LineBy s rule.Inst args r = Unit {0}
+LineBy s rule.InstTy args r = Unit {0}

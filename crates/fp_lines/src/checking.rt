@@ -1,11 +1,12 @@
 //! Proofs, line by line.
-ghost use Rattle.std.specs.Prelude.{◌≡◌, ◌↔◌, [], ◌∷◌, ◌++◌, IfOk, IfErr, OnOk, IsTrue};
+ghost use Rattle.std.specs.Prelude.{◌≡◌, ◌↔◌, [], ◌∷◌, ◌++◌, ℕ, Err, MatchResult, IfOk, IfErr, OnOk, IsTrue};
 ghost use Rattle.fp_term.specs.Variables.{variables_of};
 ghost use Rattle.fp_kernel.specs.Start.{signature_of};
 ghost use Rattle.fp_kernel.specs.Theorems.{plain};
 ghost use Rattle.fp_infer.specs.Elaborated.{AreTypesIn, IsSound};
 ghost use Rattle.fp_line_rules.specs.Standing.{IsLine, AreLines};
-ghost use Rattle.fp_lines.specs.Checks.{IsEnd, IsOf, EndFails, AreShown, FaultShown};
+ghost use Rattle.fp_lines.specs.Read.{scene_of};
+ghost use Rattle.fp_lines.specs.Checks.{Gives, LineFails, Goes, Arrives, Checks, IsEnd, IsOf, EndFails, AreShown, FaultShown};
 
 use crate::fault::{LineFault, ProofFault};
 use crate::lines::line_by;
@@ -27,6 +28,7 @@ fn check_line(
     requires same { setting.now.defs.now ≡ setting.now.theory.now.defs }
     requires lines { AreLines setting.now.defs.now setting.now.before.now }
     requires sound { IsSound (signature_of setting.now.defs.now) [] setting.now.given.now }
+    ensures exact { MatchResult result (Gives (scene_of setting.now) line.now) (LineFails (scene_of setting.now) line.now number) }
     ensures line { IfOk result (IsLine setting.now.defs.now) }
     ensures shown { IfErr result (FaultShown setting.now.defs.now) }
 {
@@ -56,10 +58,13 @@ fn check_lines(
     theory: &Theory,
     defs: &Defs,
     given: &[(Name, Ty)],
+    statement: &Term,
     lines: &[Line],
 ) -> Result<Vec<Thm>, ProofFault>
     requires same { defs.now ≡ theory.now.defs }
     requires sound { IsSound (signature_of defs.now) [] given.now }
+    ensures exact { MatchResult result (λ ths. Arrives defs.now theory.now.named given.now statement.now lines.now ths.items)
+        (λ f. Goes defs.now theory.now.named given.now statement.now [] 1 lines.now (Err f)) }
     ensures lines { IfOk result (λ ths. AreLines defs.now ths.items) }
     ensures shown { IfErr result (FaultShown defs.now) }
 {
@@ -115,11 +120,14 @@ fn wrong_end(alloc: Global, theorem: &Thm) -> ProofFault
 // What comes of the theorems of all lines.
 fn last_of(
     alloc: Global,
+    theory: &Theory,
     defs: &Defs,
+    given: &[(Name, Ty)],
     statement: &Term,
     mut theorems: Vec<Thm>,
 ) -> Result<Thm, ProofFault>
     requires lines { AreLines defs.now theorems.items }
+    ensures exact { (n : ℕ) → Goes defs.now theory.now.named given.now statement.now theorems.items n [] result }
     ensures ok { IfOk result (λ th. th ≡ plain defs.now statement.now) }
     ensures shown { IfErr result (FaultShown defs.now) }
 {
@@ -145,12 +153,13 @@ fn proof_over(
 ) -> Result<Thm, ProofFault>
     requires same { defs.now ≡ theory.now.defs }
     requires known { AreTypesIn (signature_of defs.now) given.now }
+    ensures exact { Goes defs.now theory.now.named given.now statement.now [] 1 lines.now result }
     ensures ok { IfOk result (λ th. th ≡ plain defs.now statement.now) }
     ensures shown { IfErr result (FaultShown defs.now) }
 {
     let _ = theory.signature();
-    let theorems = check_lines(alloc, theory, defs, given, lines)?;
-    last_of(alloc, defs, statement, theorems)
+    let theorems = check_lines(alloc, theory, defs, given, statement, lines)?;
+    last_of(alloc, theory, defs, given, statement, theorems)
 }
 
 /// The theorem of the statement, which the lines prove: the last gives it, without hypotheses. Else the first line at
@@ -162,6 +171,7 @@ pub fn check_proof(
     lines: &[Line],
 ) -> Result<Thm, ProofFault>
     requires known { AreTypesIn (signature_of theory.now.defs) (variables_of statement.now) }
+    ensures exact { Checks theory.now statement.now lines.now result }
     ensures ok { IfOk result (λ th. th ≡ plain theory.now.defs statement.now) }
     ensures shown { IfErr result (FaultShown theory.now.defs) }
 {

@@ -3,6 +3,8 @@ ghost use Rattle.std.specs.Prelude.{◌≡◌, [], IfOk};
 ghost use Rattle.fp_kernel.specs.Start.{signature_of};
 ghost use Rattle.fp_infer.specs.Elaborated.{IsSound};
 ghost use Rattle.fp_line_rules.specs.Standing.{IsUsable, IsLine, AreLines};
+ghost use Rattle.fp_lines.specs.Read.{scene_of};
+ghost use Rattle.fp_lines.specs.Lines.{LineOfNothing, LineOfTerm, LineOfTheorem, LineOfPair, LineBeforeTheorem, LineBeforeTerm, LineOfVariable, ExistenceOf, LineOfExistence, ChoiceOf, LineOfChoice, LineOfCases, LineBy};
 
 use crate::arguments::{
     term_alone, term_and_theorem, theorem_alone, theorem_and_more, theorem_and_term,
@@ -24,6 +26,7 @@ use fp_raw::Raw;
 use std::alloc::Global;
 
 fn line_of_nothing(alloc: Global, setting: &Setting<'_>, args: &[Arg]) -> Result<Thm, LineFault>
+    ensures exact { LineOfNothing (scene_of setting.now) args.now result }
     ensures line { IfOk result (IsLine setting.now.defs.now) }
 {
     match args {
@@ -39,6 +42,7 @@ fn line_of_term(
     args: &[Arg],
 ) -> Result<Thm, LineFault>
     requires sound { IsSound (signature_of setting.now.defs.now) [] setting.now.given.now }
+    ensures exact { LineOfTerm (scene_of setting.now) rule args.now result }
     ensures line { IfOk result (IsLine setting.now.defs.now) }
 {
     let Some(raw) = term_alone(args) else {
@@ -56,6 +60,7 @@ fn line_of_theorem(
 ) -> Result<Thm, LineFault>
     requires same { setting.now.defs.now ≡ setting.now.theory.now.defs }
     requires lines { AreLines setting.now.defs.now setting.now.before.now }
+    ensures exact { LineOfTheorem (scene_of setting.now) rule args.now result }
     ensures line { IfOk result (IsLine setting.now.defs.now) }
 {
     let Some(a) = theorem_alone(args) else {
@@ -73,6 +78,7 @@ fn line_of_pair(
 ) -> Result<Thm, LineFault>
     requires same { setting.now.defs.now ≡ setting.now.theory.now.defs }
     requires lines { AreLines setting.now.defs.now setting.now.before.now }
+    ensures exact { LineOfPair (scene_of setting.now) rule args.now result }
     ensures line { IfOk result (IsLine setting.now.defs.now) }
 {
     let Some((a, b)) = two_theorems(args) else {
@@ -92,6 +98,7 @@ fn line_before_theorem(
     requires same { setting.now.defs.now ≡ setting.now.theory.now.defs }
     requires lines { AreLines setting.now.defs.now setting.now.before.now }
     requires sound { IsSound (signature_of setting.now.defs.now) [] setting.now.given.now }
+    ensures exact { LineBeforeTheorem (scene_of setting.now) rule args.now result }
     ensures line { IfOk result (IsLine setting.now.defs.now) }
 {
     let Some((raw, a)) = term_and_theorem(args) else {
@@ -111,6 +118,7 @@ fn line_before_term(
     requires same { setting.now.defs.now ≡ setting.now.theory.now.defs }
     requires lines { AreLines setting.now.defs.now setting.now.before.now }
     requires sound { IsSound (signature_of setting.now.defs.now) [] setting.now.given.now }
+    ensures exact { LineBeforeTerm (scene_of setting.now) rule args.now result }
     ensures line { IfOk result (IsLine setting.now.defs.now) }
 {
     let Some((a, raw)) = theorem_and_term(args) else {
@@ -130,6 +138,7 @@ fn line_of_variable(
     requires same { setting.now.defs.now ≡ setting.now.theory.now.defs }
     requires lines { AreLines setting.now.defs.now setting.now.before.now }
     requires sound { IsSound (signature_of setting.now.defs.now) [] setting.now.given.now }
+    ensures exact { LineOfVariable (scene_of setting.now) rule args.now result }
     ensures line { IfOk result (IsLine setting.now.defs.now) }
 {
     let Some((raw, a)) = variable_and_theorem(setting.defs.signature(), args) else {
@@ -150,6 +159,7 @@ fn existence(
 ) -> Result<Thm, LineFault>
     requires a { IsUsable setting.now.defs.now a.now }
     requires sound { IsSound (signature_of setting.now.defs.now) [] setting.now.given.now }
+    ensures exact { ExistenceOf (scene_of setting.now) raw.now witness.now a.now result }
     ensures line { IfOk result (IsLine setting.now.defs.now) }
 {
     let term = term_of(alloc, setting, raw)?;
@@ -161,6 +171,7 @@ fn line_of_existence(alloc: Global, setting: &Setting<'_>, args: &[Arg]) -> Resu
     requires same { setting.now.defs.now ≡ setting.now.theory.now.defs }
     requires lines { AreLines setting.now.defs.now setting.now.before.now }
     requires sound { IsSound (signature_of setting.now.defs.now) [] setting.now.given.now }
+    ensures exact { LineOfExistence (scene_of setting.now) args.now result }
     ensures line { IfOk result (IsLine setting.now.defs.now) }
 {
     let Some((raw, witness, a)) = two_terms_and_theorem(args) else {
@@ -174,6 +185,7 @@ fn line_of_choice(alloc: Global, setting: &Setting<'_>, args: &[Arg]) -> Result<
     requires same { setting.now.defs.now ≡ setting.now.theory.now.defs }
     requires lines { AreLines setting.now.defs.now setting.now.before.now }
     requires sound { IsSound (signature_of setting.now.defs.now) [] setting.now.given.now }
+    ensures exact { LineOfChoice (scene_of setting.now) args.now result }
     ensures line { IfOk result (IsLine setting.now.defs.now) }
 {
     let Some((raw, a, b)) = variable_and_two_theorems(setting.defs.signature(), args) else {
@@ -188,6 +200,7 @@ fn line_of_choice(alloc: Global, setting: &Setting<'_>, args: &[Arg]) -> Result<
 fn line_of_cases(alloc: Global, setting: &Setting<'_>, args: &[Arg]) -> Result<Thm, LineFault>
     requires same { setting.now.defs.now ≡ setting.now.theory.now.defs }
     requires lines { AreLines setting.now.defs.now setting.now.before.now }
+    ensures exact { LineOfCases (scene_of setting.now) args.now result }
     ensures line { IfOk result (IsLine setting.now.defs.now) }
 {
     let Some((a, b, c)) = three_theorems(args) else {
@@ -270,6 +283,7 @@ pub(crate) fn line_by(
     requires same { setting.now.defs.now ≡ setting.now.theory.now.defs }
     requires lines { AreLines setting.now.defs.now setting.now.before.now }
     requires sound { IsSound (signature_of setting.now.defs.now) [] setting.now.given.now }
+    ensures exact { LineBy (scene_of setting.now) rule args.now result }
     ensures line { IfOk result (IsLine setting.now.defs.now) }
 {
     match rule {
