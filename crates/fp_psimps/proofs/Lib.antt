@@ -1,0 +1,2 @@
+pub mod InDomain
+pub mod Chained

@@ -1,0 +1,19 @@
+use Rattle.std.proofs.Common.{◌≡◌, ◌∙◌, [], ◌∷◌, ap}
+use Rattle.std.specs.Prelude.{codes}
+use Rattle.fp_term.specs.Terms.{replaced, retyped_term}
+use Rattle.fp_kernel.specs.Definitions.{whole}
+use Rattle.fp_kernel.specs.Theorems.{Theorem}
+use Rattle.fp_quant.specs.Meanings.{for_both}
+use Rattle.fp_quant.proofs.Placed.{plain_is}
+use Rattle.fp_sums.proofs.Again.{right_instance}
+use Rattle.fp_sums.proofs.outs.right_out_of.Goals as goal
+
+pub inst_known-requires : goal.inst_known-requires
+inst_known-requires c = rw (c.in_ok-typed.ensures, c.in_ok-for_y.ensures) (whole, (c.requires.value, tt))
+
+pub returns : goal.returns
+returns c =
+    let pairs = (codes "y", c.args.right.now, c.args.value.now) ∷ [] in
+    plain_is c.inst_known.result c.args.defs.now _ _
+    (ap (λ (x : Theorem). replaced pairs (retyped_term (for_both c.args.right.now c.args.left.now) x.concl)) c.requires.lemma ∙ right_instance c.args.left.now c.args.right.now c.args.value.now)
+    (rw (c.in_ok-typed.ensures, c.in_ok-for_y.ensures) at c.inst_known.ensures)
