@@ -24,7 +24,8 @@ returns-in_err-push_line-clause-exact c =
 pub loop-line-preserved : goal.loop-line-preserved
 loop-line-preserved c =
     let gives = rw c.as_slice.ensures.value at c.in_ok-theorem.ensures.exact in
-    rw c.in_ok-push_line.ensures
-    (one_line_more c.args.defs.now c.loop-line.before.items c.in_ok-theorem.theorem c.loop-line.invariant.0 c.in_ok-theorem.ensures.line,
-    leads_on c.args.defs.now c.args.theory.now.named c.args.given.now c.args.statement.now c.loop-line.before.items c.loop-line.number c.args.lines.now c.loop-line.line-index c.line-item.result c.in_ok-theorem.theorem
-    c.loop-line-test.true c.line-item.is gives c.loop-line.invariant.1)
+    rw c.in_ok-push_line.ensures (
+      one_line_more c.args.defs.now c.loop-line.before.items c.in_ok-theorem.theorem c.loop-line.invariant.0 c.in_ok-theorem.ensures.line,
+      leads_on c.args.defs.now c.args.theory.now.named c.args.given.now c.args.statement.now c.loop-line.before.items c.loop-line.number c.args.lines.now c.loop-line.line-index c.line-item.result c.in_ok-theorem.theorem
+          c.loop-line-test.true c.line-item.is gives c.loop-line.invariant.1,
+    )
