@@ -1,0 +1,4 @@
+use Rattle.fp_retrace.proofs.steps.abstraction.Goals as goal
+
+pub carry_on-requires-clause-stack : goal.carry_on-requires-clause-stack
+carry_on-requires-clause-stack c = c.in_ok-body.ensures.rest c.args.defs.now c.requires
