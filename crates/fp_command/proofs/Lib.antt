@@ -1,0 +1,10 @@
+pub mod Carrying
+pub mod Listing
+pub mod Reporting
+pub mod Shown
+pub mod Sound
+pub mod Naming
+pub mod Telling
+pub mod Formulas
+pub mod Accepting
+pub mod Refusing
