@@ -12,6 +12,6 @@ unread-requires c = c.in_ok-refusal-in-Err.ensures.1
 
 pub returns-in_ok-refusal-in-Err : goal.returns-in_ok-refusal-in-Err
 returns-in_ok-refusal-in-Err c =
-    let r = c.in_ok-refusal-in-Err.field-0 in
+    let r = c.in_ok-refusal-in-Err.refusal in
     report_unread c.args.full c.args.name.now c.args.bytes.now c.args.theory.now r.at r.reason c.unread.result
     (is_unreadable c.args.tokens.now r.at r.reason c.requires (c.in-Err.fault, c.in_ok-refusal-in-Err.ensures.0)) c.unread.ensures
