@@ -1,9 +1,12 @@
 //! What an accepted command shows.
 ghost use Rattle.std.specs.Prelude.{◌≡◌, ◌++◌, ◌∷◌, [], codes, OnOk};
 ghost use Rattle.fp_print.specs.Numbers.{HasOnly, AllHaveOnly};
-ghost use Rattle.fp_report.specs.Items.{item_line, statement_text, stated_line, named_line, IsShown, with_commas, commas_before, type_text, term_text, measure_line};
+ghost use Rattle.fp_report.specs.Items.{item_line, stated_line, named_line, IsShown, measure_line};
+ghost use Rattle.fp_report.specs.Texts.{statement_text, with_commas, commas_before, type_text, term_text};
 
+use crate::matrix::push_order_line;
 use fp_full::{print_full_onto, print_full_term_onto, print_full_type_onto};
+use fp_outcome::OrderPart;
 use fp_print::{print_statement_onto, print_term_onto, print_type_onto};
 use fp_term::{Items, Name, Statement, Term, Ty};
 use std::alloc::AllocError;
@@ -22,6 +25,8 @@ pub enum Item {
     Size(Ty, Term),
     /// A type, and a measure of its values.
     Measure(Ty, Term),
+    /// Functions, and the order in which their calls descend.
+    Order(Items<Name>, Items<OrderPart>),
 }
 
 /// Puts a statement at the end, in the full form or the short one.
@@ -52,8 +57,8 @@ fn push_type(text: &mut Vec<u8>, full: bool, ty: &Ty) -> Result<(), AllocError>
     }
 }
 
-// Puts a term at the end, in the full form or the short one.
-fn push_term(text: &mut Vec<u8>, full: bool, term: &Term) -> Result<(), AllocError>
+/// Puts a term at the end, in the full form or the short one.
+pub(crate) fn push_term(text: &mut Vec<u8>, full: bool, term: &Term) -> Result<(), AllocError>
     requires { HasOnly 0 term.now }
     ensures { OnOk result (text.new.items ≡ text.old.items ++ term_text full term.now) }
 {
@@ -64,8 +69,13 @@ fn push_term(text: &mut Vec<u8>, full: bool, term: &Term) -> Result<(), AllocErr
     }
 }
 
-// Puts a word, a name and what follows it at the end.
-fn push_name(text: &mut Vec<u8>, word: &[u8], name: &Name, then: &[u8]) -> Result<(), AllocError>
+/// Puts a word, a name and what follows it at the end.
+pub(crate) fn push_name(
+    text: &mut Vec<u8>,
+    word: &[u8],
+    name: &Name,
+    then: &[u8],
+) -> Result<(), AllocError>
     ensures { OnOk result (text.new.items ≡ text.old.items ++ (word.now ++ (name.now ++ then.now))) }
 {
     text.extend_from_slice(word)?;
@@ -100,8 +110,8 @@ fn push_later(text: &mut Vec<u8>, names: &[Name]) -> Result<(), AllocError>
     Ok(())
 }
 
-// Puts names with commas between them at the end.
-fn push_names(text: &mut Vec<u8>, names: &[Name]) -> Result<(), AllocError>
+/// Puts names with commas between them at the end.
+pub(crate) fn push_names(text: &mut Vec<u8>, names: &[Name]) -> Result<(), AllocError>
     ensures { OnOk result (text.new.items ≡ text.old.items ++ with_commas names.now) }
 {
     match names {
@@ -160,5 +170,11 @@ pub fn push_item(text: &mut Vec<u8>, full: bool, item: &Item) -> Result<(), Allo
         Item::Constructors(name, names) => push_constructors(text, name, names.as_slice()),
         Item::Size(ty, term) => push_measure(text, full, b"size ", ty, term),
         Item::Measure(ty, term) => push_measure(text, full, b"measure ", ty, term),
+        Item::Order(names, parts) => push_order_line(
+            text,
+            full,
+            names.as_slice(),
+            parts.as_slice(),
+        ),
     }
 }
