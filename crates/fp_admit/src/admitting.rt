@@ -1,7 +1,6 @@
 //! A written group, made into a group.
 ghost use Rattle.std.specs.Prelude.{◌≡◌, length, IfOk};
 
-use crate::fault::FunFault;
 use crate::grouping::group_of;
 use crate::lemmas::check_lemmas;
 use crate::names::check_names;
@@ -9,6 +8,7 @@ use crate::spec::GroupSpec;
 use crate::taking::take_apart;
 use crate::typing::{typed_clauses, written_types};
 use fp_group::Group;
+use fp_outcome::FunFault;
 use fp_theory::Theory;
 use std::alloc::Global;
 

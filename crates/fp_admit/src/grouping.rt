@@ -2,11 +2,11 @@
 ghost use Rattle.std.specs.Prelude.{◌≡◌, length, IfOk};
 ghost use Rattle.fp_pattern.specs.Completed.{AreBelow};
 
-use crate::fault::FunFault;
 use crate::taking::Parts;
 use fp_cong::{CallFault, calls};
 use fp_declared::congruence_rules;
 use fp_group::{CallSite, Clause, CongTable, Group, Head};
+use fp_outcome::FunFault;
 use fp_pattern::{PatternFault, complete};
 use fp_term::Items;
 use fp_theory::Theory;

@@ -1,8 +1,8 @@
 //! The lemmas that a group's theorems are derived from, in the full form of terms.
 
-use crate::fault::FunFault;
 use fp_data::{LackFault, Needed, need};
 use fp_full::read_full_term;
+use fp_outcome::FunFault;
 use fp_term::{Items, Name};
 use fp_theory::Theory;
 use std::alloc::{AllocError, Global};

@@ -12,6 +12,6 @@ mod typing;
 mod variables;
 
 pub use admitting::admit;
-pub use fault::FunFault;
+pub use fp_outcome::FunFault;
 pub use names::{induct_name, pinduct_name, psimp_name, simp_name, termination_name};
 pub use spec::GroupSpec;

@@ -1,9 +1,10 @@
 //! The names that a command for a group makes, and whether they are free.
 ghost use Rattle.std.specs.Prelude.{◌≡◌, ◌++◌, codes, IfOk};
 
-use crate::fault::{FunFault, name_taken};
+use crate::fault::name_taken;
 use crate::spec::GroupSpec;
 use fp_commands::Head;
+use fp_outcome::FunFault;
 use fp_term::{Arities, Name, numbered};
 use fp_theory::Theory;
 use std::alloc::{AllocError, Global};

@@ -2,10 +2,11 @@
 ghost use Rattle.std.specs.Prelude.{◌≡◌, ◌<◌, length, IfOk, IfSome, OnOk};
 ghost use Rattle.fp_pattern.specs.Completed.{AreBelow};
 
-use crate::fault::{FunFault, no_clause};
+use crate::fault::no_clause;
 use crate::variables::{check_bound, check_hidden};
 use fp_conclude::{function_parts, sides};
 use fp_group::{Clause, Head};
+use fp_outcome::FunFault;
 use fp_term::{Items, Name, Node, Term, Ty, arguments, head, next};
 use std::alloc::{AllocError, Global};
 

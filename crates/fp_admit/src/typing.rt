@@ -3,13 +3,13 @@ ghost use Rattle.std.specs.Prelude.{◌≡◌, true, length, IfOk};
 ghost use Rattle.fp_infer.specs.Elaborated.{AreTypesIn};
 ghost use Rattle.fp_kernel.specs.Start.{signature_of};
 
-use crate::fault::FunFault;
 use crate::spec::GroupSpec;
 use fp_commands::Head;
 use fp_constrain::{Constants, Question, plain_type};
 use fp_infer::{
     InferFault, Search, Typed, elaborate_with, find_types, first_wrong, first_wrong_in_type,
 };
+use fp_outcome::FunFault;
 use fp_raw::Raw;
 use fp_term::{Items, Name, Signature, Term, Ty};
 use fp_theory::Theory;

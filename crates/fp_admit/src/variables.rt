@@ -1,8 +1,9 @@
 //! The variables and type variables of clauses.
 
-use crate::fault::{FunFault, hidden_type as hides};
+use crate::fault::hidden_type as hides;
 use fp_conclude::truth_type;
 use fp_group::{Clause, Head};
+use fp_outcome::FunFault;
 use fp_term::{
     Items, Name, Term, Ty, add_variables, free_variables, function_of_all, hidden_type, next,
 };
