@@ -13,5 +13,7 @@ mod variables;
 
 pub use admitting::admit;
 pub use fp_outcome::FunFault;
-pub use names::{induct_name, pinduct_name, psimp_name, simp_name, termination_name};
+pub use names::{
+    definition_name, induct_name, pinduct_name, psimp_name, simp_name, termination_name,
+};
 pub use spec::GroupSpec;

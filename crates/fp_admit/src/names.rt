@@ -34,6 +34,13 @@ fn with_number(alloc: Global, stem: &Name, number: u32) -> Result<Name, AllocErr
     numbered(alloc, stem, number)
 }
 
+/// The name of the theorem that defines a constant.
+pub fn definition_name(alloc: Global, constant: &Name) -> Result<Name, AllocError>
+    ensures { IfOk result (λ n. n ≡ constant.now ++ codes "_def") }
+{
+    longer(alloc, constant, b"_def")
+}
+
 /// The name of the partial rule of that number, from 1, of the group with that first function.
 pub fn psimp_name(alloc: Global, first: &Name, number: u32) -> Result<Name, AllocError> {
     let stem = longer(alloc, first, b"_psimp_")?;
@@ -103,7 +110,7 @@ fn check_constant(
     if is_constant(theory, made, name) {
         return Err(name_taken(at, name));
     }
-    check_theorem(theory, at, &longer(alloc, name, b"_def")?)?;
+    check_theorem(theory, at, &definition_name(alloc, name)?)?;
     made.push((name.copy()?, 0))?;
     Ok(())
 }

@@ -1,15 +1,15 @@
 //! The goals of a cell, in normal form.
-ghost use Rattle.std.specs.Prelude.{◌≡◌, ◌<◌, length, slice_get, Some, IsSome, IfOk, IsTrue, codes};
+ghost use Rattle.std.specs.Prelude.{◌≡◌, ◌<◌, length, slice_get, Some, IsSome, true, IfOk, IfSome, MatchOption, IsTrue, codes};
 ghost use Rattle.fp_term.specs.Names.{is_name};
 ghost use Rattle.fp_term.specs.Terms.{constant, app};
 ghost use Rattle.fp_term.specs.Typing.{function_type};
 ghost use Rattle.fp_conclude.specs.Logic.{truth_type};
 ghost use Rattle.fp_conv.specs.Passes.{NormalBy};
 ghost use Rattle.fp_shapes.specs.Tuples.{tuple};
-ghost use Rattle.fp_cells.specs.Goals.{natural, related, measure_at, CanAsk, AreGoals};
+ghost use Rattle.fp_cells.specs.Goals.{natural, related, measure_at, CanAsk, IsFull, AreGoals};
 
 use fp_conclude::{apply_both, truth_type};
-use fp_group::Group;
+use fp_group::{CallSite, Clause, Group, Head};
 use fp_normal::normal_form;
 use fp_order::Cell;
 use fp_shapes::tuple;
@@ -114,4 +114,67 @@ pub fn goals(
         clause.patterns.as_slice(),
     )?;
     asked(alloc, site.guards.as_slice(), &left, &right)
+}
+
+// The item of that number, where there is one.
+fn found<T>(items: &[T], number: u32) -> Option<&T>
+    ensures { MatchOption result (Unit {0}) (λ item. slice_get items.now number ≡ Some item.now) }
+{
+    items.get(number as usize)
+}
+
+// The measure of that number of the function of that number, where there is one.
+#[tactic(auto, using(crate::proofs::Asked::same_measure))]
+fn measure_found(measures: &[Items<Term>], function: u32, number: u32) -> Option<&Term>
+    ensures { MatchOption result (Unit {0}) (λ measure. measure_at measures.now function number ≡ Some measure.now) }
+{
+    let own = found(measures, function)?;
+    found(own.as_slice(), number)
+}
+
+// Has each of the functions arguments, and is there a term for each?
+fn is_full(site: &CallSite, clause: &Clause, caller: &Head, callee: &Head) -> bool
+    ensures { result ≡ true → IsFull site.now clause.now caller.now callee.now }
+{
+    let caller_count = caller.args.as_slice().len();
+    let callee_count = callee.args.as_slice().len();
+    0 < caller_count
+        && 0 < callee_count
+        && clause.patterns.as_slice().len() == caller_count
+        && site.args.as_slice().len() == callee_count
+}
+
+/// The goals of a cell, where it is one of the group with these measures.
+pub fn goals_of(
+    alloc: Global,
+    group: &Group,
+    measures: &[Items<Term>],
+    cell: Cell,
+) -> Result<Option<CellData>, AllocError>
+    ensures { IfOk result (λ o. IfSome o (AreGoals group.now measures.now cell)) }
+{
+    let Some(site) = found(group.sites.as_slice(), cell.row) else {
+        return Ok(None);
+    };
+    let Some(clause) = found(group.clauses.as_slice(), site.clause) else {
+        return Ok(None);
+    };
+    let Some(caller) = found(group.heads.as_slice(), site.caller) else {
+        return Ok(None);
+    };
+    let Some(callee) = found(group.heads.as_slice(), site.callee) else {
+        return Ok(None);
+    };
+    let Some(source) = measure_found(measures, site.caller, cell.source) else {
+        return Ok(None);
+    };
+    let Some(target) = measure_found(measures, site.callee, cell.target) else {
+        return Ok(None);
+    };
+    if !is_full(site, clause, caller, callee) {
+        return Ok(None);
+    }
+    let left = measured(alloc, target, callee.args.as_slice(), site.args.as_slice())?;
+    let right = measured(alloc, source, caller.args.as_slice(), clause.patterns.as_slice())?;
+    Ok(Some(asked(alloc, site.guards.as_slice(), &left, &right)?))
 }

@@ -3,4 +3,4 @@
 
 mod asking;
 
-pub use asking::goals;
+pub use asking::{goals, goals_of};
