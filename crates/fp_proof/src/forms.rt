@@ -45,12 +45,7 @@ impl<'t> Proof<'t> {
     }
 
     /// `p1 \/ .. \/ pn` from the part of that index.
-    pub fn disjunct_from(
-        &mut self,
-        parts: &[Term],
-        index: usize,
-        line: Line,
-    ) -> Result<Line, Stop>
+    pub fn disjunct_from(&mut self, parts: &[Term], index: usize, line: Line) -> Result<Line, Stop>
         ensures { OnOk result (self.new ≡ self.old) }
     {
         if index >= parts.len() {
@@ -87,6 +82,7 @@ impl<'t> Proof<'t> {
     }
 
     /// `p --> q` from `p = r` and `r --> q`.
+    #[tactic(auto, unfolding(fp_term::specs::Names::is_name))]
     pub fn with_premise(&mut self, same: Line, rule: Line) -> Result<Line, Stop>
         ensures { OnOk result (self.new ≡ self.old) }
     {

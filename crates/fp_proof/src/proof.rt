@@ -96,6 +96,7 @@ impl<'t> Proof<'t> {
     }
 
     /// The theorem in a line.
+    #[tactic(auto, using(fp_retrace::proofs::Stood::within_at))]
     pub(crate) fn at(&self, line: Line) -> Result<&Thm, Stop>
         ensures { IfOk result (λ th. Within th.now.defs self.now) }
     {
@@ -108,8 +109,9 @@ impl<'t> Proof<'t> {
     }
 
     /// The theorem in a new line.
+    #[tactic(auto, using(crate::proofs::Made::after))]
     pub(crate) fn put(&mut self, theorem: Thm) -> Result<Line, Stop>
-        requires { Within theorem.now.defs self.now }
+        requires { Within theorem.defs self.now }
         ensures { OnOk result (self.new ≡ self.old) }
     {
         let Ok(number) = u32::try_from(self.lines.len()) else {
@@ -164,19 +166,26 @@ impl<'t> Proof<'t> {
         }
     }
 
-    /// A new variable: its name is the first unused of `a1`, `a2`, ..
-    pub fn fresh(&mut self, ty: &Ty) -> Result<(Name, Ty), Stop>
-        ensures { OnOk result (self.new ≡ self.old) }
-    {
+    // The next number of a new variable, and its name.
+    #[tactic(auto, unfolding(fp_term::specs::Names::is_name))]
+    fn next_name(&self) -> Result<(Name, u32), Stop> {
         let stem = Name::of(self.alloc, b"a")?;
         for number in self.newest..u32::MAX {
             let name = numbered(self.alloc, &stem, number + 1)?;
             if !is_among(&name, self.known.as_slice()) {
-                self.newest = number + 1;
-                return Ok((name, ty.copy()?));
+                return Ok((name, number + 1));
             }
         }
         Err(Stop::NoMemory)
+    }
+
+    /// A new variable: its name is the first unused of `a1`, `a2`, ..
+    pub fn fresh(&mut self, ty: &Ty) -> Result<(Name, Ty), Stop>
+        ensures { OnOk result (self.new ≡ self.old) }
+    {
+        let (name, number) = self.next_name()?;
+        self.newest = number;
+        Ok((name, ty.copy()?))
     }
 
     /// The theory's theorem of that name.
@@ -217,12 +226,20 @@ impl<'t> Proof<'t> {
         self.lines.len()
     }
 
+    // The first lines, of that number.
+    #[tactic(auto, using(crate::proofs::Made::first))]
+    fn cut_to(&mut self, mark: usize)
+        ensures { self.new ≡ self.old }
+    {
+        self.lines.truncate(mark);
+    }
+
     /// One line, in the place of all since the mark.
     pub fn keep(&mut self, mark: usize, line: Line) -> Result<Line, Stop>
         ensures { OnOk result (self.new ≡ self.old) }
     {
         let theorem = self.at(line)?.copy(self.alloc)?;
-        self.lines.truncate(mark);
+        self.cut_to(mark);
         self.put(theorem)
     }
 

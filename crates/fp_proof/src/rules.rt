@@ -6,7 +6,7 @@ use crate::stop::Stop;
 use fp_conclude::typed_over;
 use fp_conv::beta_norm;
 use fp_disjunction::{cases, disj1, disj2, false_elim, not_elim};
-use fp_logic::{ap, ap_arg, conj, conj1, conj2, disch, mp, sym, undisch};
+use fp_logic::{ap, ap_arg, conj_known, conj1, conj2, disch, mp, sym, undisch};
 use fp_quant::{choose, exists, ext, spec};
 use fp_term::{Name, Term, Ty};
 
@@ -25,7 +25,10 @@ impl<'t> Proof<'t> {
     pub fn trans(&mut self, first: Line, second: Line) -> Result<Line, Stop>
         ensures { OnOk result (self.new ≡ self.old) }
     {
-        let th = self.theory().defs().trans(self.alloc(), self.at(first)?, self.at(second)?)?;
+        let th = self
+            .theory()
+            .defs()
+            .trans(self.alloc(), self.at(first)?, self.at(second)?)?;
         self.put(th)
     }
 
@@ -34,7 +37,10 @@ impl<'t> Proof<'t> {
     pub fn mk_comb(&mut self, first: Line, second: Line) -> Result<Line, Stop>
         ensures { OnOk result (self.new ≡ self.old) }
     {
-        let th = self.theory().defs().mk_comb(self.alloc(), self.at(first)?, self.at(second)?)?;
+        let th = self
+            .theory()
+            .defs()
+            .mk_comb(self.alloc(), self.at(first)?, self.at(second)?)?;
         self.put(th)
     }
 
@@ -43,7 +49,10 @@ impl<'t> Proof<'t> {
     pub fn lam(&mut self, var: &(Name, Ty), body: Line) -> Result<Line, Stop>
         ensures { OnOk result (self.new ≡ self.old) }
     {
-        let th = self.theory().defs().lam(self.alloc(), &var.0, &var.1, self.at(body)?)?;
+        let th = self
+            .theory()
+            .defs()
+            .lam(self.alloc(), &var.0, &var.1, self.at(body)?)?;
         self.put(th)
     }
 
@@ -70,7 +79,10 @@ impl<'t> Proof<'t> {
     pub fn eq_mp(&mut self, equation: Line, held: Line) -> Result<Line, Stop>
         ensures { OnOk result (self.new ≡ self.old) }
     {
-        let th = self.theory().defs().eq_mp(self.alloc(), self.at(equation)?, self.at(held)?)?;
+        let th = self
+            .theory()
+            .defs()
+            .eq_mp(self.alloc(), self.at(equation)?, self.at(held)?)?;
         self.put(th)
     }
 
@@ -79,7 +91,10 @@ impl<'t> Proof<'t> {
     pub fn inst(&mut self, line: Line, pairs: &[(Name, Ty, Term)]) -> Result<Line, Stop>
         ensures { OnOk result (self.new ≡ self.old) }
     {
-        let th = self.theory().defs().inst(self.alloc(), self.at(line)?, pairs)?;
+        let th = self
+            .theory()
+            .defs()
+            .inst(self.alloc(), self.at(line)?, pairs)?;
         self.put(th)
     }
 
@@ -88,7 +103,10 @@ impl<'t> Proof<'t> {
     pub fn inst_ty(&mut self, line: Line, pairs: &[(Name, Ty)]) -> Result<Line, Stop>
         ensures { OnOk result (self.new ≡ self.old) }
     {
-        let th = self.theory().defs().inst_ty(self.alloc(), self.at(line)?, pairs)?;
+        let th = self
+            .theory()
+            .defs()
+            .inst_ty(self.alloc(), self.at(line)?, pairs)?;
         self.put(th)
     }
 
@@ -120,11 +138,16 @@ impl<'t> Proof<'t> {
     }
 
     /// `p /\ q` from `p` and `q`.
-    #[tactic(auto, using(crate::proofs::Made::made))]
+    #[tactic(auto, using(crate::proofs::Made::joins))]
     pub fn conj(&mut self, first: Line, second: Line) -> Result<Line, Stop>
         ensures { OnOk result (self.new ≡ self.old) }
     {
-        let th = conj(self.alloc(), self.theory().defs(), self.at(first)?, self.at(second)?)?;
+        let th = conj_known(
+            self.alloc(),
+            self.theory().defs(),
+            self.at(first)?,
+            self.at(second)?,
+        )?;
         self.put(th)
     }
 
@@ -151,7 +174,12 @@ impl<'t> Proof<'t> {
     pub fn mp(&mut self, rule: Line, held: Line) -> Result<Line, Stop>
         ensures { OnOk result (self.new ≡ self.old) }
     {
-        let th = mp(self.alloc(), self.theory().defs(), self.at(rule)?, self.at(held)?)?;
+        let th = mp(
+            self.alloc(),
+            self.theory().defs(),
+            self.at(rule)?,
+            self.at(held)?,
+        )?;
         self.put(th)
     }
 
@@ -165,7 +193,7 @@ impl<'t> Proof<'t> {
     }
 
     /// `q` from `p --> q`, on the hypothesis `p`.
-    #[tactic(auto, using(crate::proofs::Made::made))]
+    #[tactic(auto, using(crate::proofs::Made::undischarges))]
     pub fn undisch(&mut self, line: Line) -> Result<Line, Stop>
         ensures { OnOk result (self.new ≡ self.old) }
     {
@@ -178,7 +206,13 @@ impl<'t> Proof<'t> {
     pub fn gen_all(&mut self, var: &(Name, Ty), line: Line) -> Result<Line, Stop>
         ensures { OnOk result (self.new ≡ self.old) }
     {
-        let th = fp_quant::gen_all(self.alloc(), self.theory().defs(), &var.0, &var.1, self.at(line)?)?;
+        let th = fp_quant::gen_all(
+            self.alloc(),
+            self.theory().defs(),
+            &var.0,
+            &var.1,
+            self.at(line)?,
+        )?;
         self.put(th)
     }
 
@@ -196,16 +230,29 @@ impl<'t> Proof<'t> {
     pub fn exists(&mut self, some: &Term, witness: &Term, line: Line) -> Result<Line, Stop>
         ensures { OnOk result (self.new ≡ self.old) }
     {
-        let th = exists(self.alloc(), self.theory().defs(), some, witness, self.at(line)?)?;
+        let th = exists(
+            self.alloc(),
+            self.theory().defs(),
+            some,
+            witness,
+            self.at(line)?,
+        )?;
         self.put(th)
     }
 
     /// `q` from `?x. p` and from `q` on the hypothesis `p` at a variable.
-    #[tactic(auto, using(crate::proofs::Made::made))]
+    #[tactic(auto, using(crate::proofs::Made::chooses))]
     pub fn choose(&mut self, var: &(Name, Ty), some: Line, line: Line) -> Result<Line, Stop>
         ensures { OnOk result (self.new ≡ self.old) }
     {
-        let th = choose(self.alloc(), self.theory().defs(), &var.0, &var.1, self.at(some)?, self.at(line)?)?;
+        let th = choose(
+            self.alloc(),
+            self.theory().defs(),
+            &var.0,
+            &var.1,
+            self.at(some)?,
+            self.at(line)?,
+        )?;
         self.put(th)
     }
 
@@ -228,11 +275,17 @@ impl<'t> Proof<'t> {
     }
 
     /// `r` from `p \/ q`, and from `r` on either hypothesis.
-    #[tactic(auto, using(crate::proofs::Made::made))]
+    #[tactic(auto, using(crate::proofs::Made::decides))]
     pub fn cases(&mut self, either: Line, first: Line, second: Line) -> Result<Line, Stop>
         ensures { OnOk result (self.new ≡ self.old) }
     {
-        let th = cases(self.alloc(), self.theory().defs(), self.at(either)?, self.at(first)?, self.at(second)?)?;
+        let th = cases(
+            self.alloc(),
+            self.theory().defs(),
+            self.at(either)?,
+            self.at(first)?,
+            self.at(second)?,
+        )?;
         self.put(th)
     }
 
@@ -259,11 +312,18 @@ impl<'t> Proof<'t> {
     pub fn ext(&mut self, var: &(Name, Ty), line: Line) -> Result<Line, Stop>
         ensures { OnOk result (self.new ≡ self.old) }
     {
-        let th = ext(self.alloc(), self.theory().defs(), &var.0, &var.1, self.at(line)?)?;
+        let th = ext(
+            self.alloc(),
+            self.theory().defs(),
+            &var.0,
+            &var.1,
+            self.at(line)?,
+        )?;
         self.put(th)
     }
 
     /// `t = u`, where `u` is the beta-normal form of `t`.
+    #[tactic(auto, using(crate::proofs::Made::found_typed, crate::proofs::Made::normalizes))]
     pub fn normal(&mut self, term: &Term) -> Result<Line, Stop>
         ensures { OnOk result (self.new ≡ self.old) }
     {
