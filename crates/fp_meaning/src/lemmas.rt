@@ -6,7 +6,7 @@ use fp_term::{Items, Name, Node, Term, Ty};
 use std::alloc::{AllocError, Global};
 
 /// The theorem whose name is that name with more bytes after it.
-pub(crate) fn lemma_of(proof: &mut Proof<'_>, stem: &Name, more: &[u8]) -> Result<Line, Stop>
+pub fn lemma_of(proof: &mut Proof<'_>, stem: &Name, more: &[u8]) -> Result<Line, Stop>
     ensures { OnOk result (proof.new ≡ proof.old) }
 {
     let mut bytes = Vec::from_slice(proof.alloc(), stem.as_slice())?;

@@ -15,6 +15,7 @@ mod valuing;
 mod wording;
 
 pub use constructing::constructor_names;
+pub use lemmas::lemma_of;
 pub use shared::Setting;
 pub use start::setting;
 pub use stating::{agreement, complete_statement, det_statement};

@@ -137,6 +137,24 @@ impl<'g> Setting<'g> {
         self.at_row_terms(proof, rule, h, z, x)
     }
 
+    /// `f_clauses h (in(p)) (inr(r[h]))`, where these are the two terms.
+    pub fn clause_holds(
+        &self,
+        proof: &mut Proof<'_>,
+        j: usize,
+        h: &Term,
+        argument: &Term,
+        value: &Term,
+    ) -> Result<Line, Stop>
+        ensures { OnOk result (proof.new ≡ proof.old) }
+    {
+        let rule = self.clause_rule(proof, j, h, argument, value)?;
+        let first = proof.refl(argument)?;
+        let second = proof.refl(value)?;
+        let both = proof.conj(first, second)?;
+        proof.mp(rule, both)
+    }
+
     // From the rules of all clauses, without their variables, to the goal.
     fn clauses_to(&self, proof: &mut Proof<'_>, rules: &[Line], goal: &Term) -> Result<Line, Stop>
         ensures { OnOk result (proof.new ≡ proof.old) }
