@@ -7,7 +7,7 @@ use Rattle.fp_kernel.specs.Conservative.{IsConservative}
 use Rattle.fp_theory.specs.State.{State, found_theorem, IsNoted}
 use Rattle.fp_outcome.specs.Shown.{IsShownStatement, AreShownParts}
 use Rattle.fp_outcome.specs.declared.item.FunItem.{FunItem}
-use Rattle.fp_outcome.specs.declared.item.FunItem.TheVariants.{Definition, Theorem, Order}
+use Rattle.fp_outcome.specs.declared.item.FunItem.TheVariants as item
 
 -- the statement of a formula without hypotheses
 abbrev pub stated : Tm → Statement
@@ -24,9 +24,9 @@ pub record IsNamed (t : State) (name : List ℕ) (s : Statement) : Type 0 where
 
 -- and it can be printed
 abbrev pub IsNamedItem : State → FunItem → Type 0
-IsNamedItem t (Definition name s) = IsNamed t name s × IsShownStatement s
-IsNamedItem t (Theorem name s) = IsNamed t name s × IsShownStatement s
-IsNamedItem t (Order names parts) = AreShownParts parts
+IsNamedItem t (item.Definition name s) = IsNamed t name s × IsShownStatement s
+IsNamedItem t (item.Theorem name s) = IsNamed t name s × IsShownStatement s
+IsNamedItem t (item.Order names parts) = AreShownParts parts
 
 abbrev pub AreNamed : State → List FunItem → Type 0
 AreNamed t [] = Unit {0}

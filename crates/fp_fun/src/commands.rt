@@ -18,6 +18,7 @@ use fp_theory::Theory;
 use std::alloc::Global;
 
 // Defines the group, proves its theorems and names them.
+#[tactic(auto, using(crate::proofs::Extending::extends_both))]
 fn made(
     alloc: Global,
     at: u32,
@@ -79,6 +80,16 @@ fn carry_out(
     }
 }
 
+// The refusal of a group, which isn't for want of an order.
+fn refused(fault: FunFault) -> FunFault
+    ensures { IsShownFault result }
+{
+    match fault {
+        FunFault::NoOrder { .. } => FunFault::NoMemory,
+        other => other,
+    }
+}
+
 /// Defines functions on the domain on which they end, and proves and names their partial rules and inductions. After a refusal
 /// the theory is as before.
 pub fn function_command(
@@ -91,7 +102,10 @@ pub fn function_command(
     ensures same { OnErr result (theory.new ≡ theory.old) }
     ensures err { IfErr result IsShownFault }
 {
-    let group = admit(alloc, &*theory, spec, false)?;
+    let group = match admit(alloc, &*theory, spec, false) {
+        Ok(group) => group,
+        Err(fault) => return Err(refused(fault)),
+    };
     carry_out(alloc, spec.at, theory, &group, None)
 }
 
@@ -108,7 +122,10 @@ pub fn fun_command(
     ensures same { OnErr result (theory.new ≡ theory.old) }
     ensures err { IfErr result IsShownFault }
 {
-    let group = admit(alloc, &*theory, spec, true)?;
+    let group = match admit(alloc, &*theory, spec, true) {
+        Ok(group) => group,
+        Err(fault) => return Err(refused(fault)),
+    };
     let plan = plan_of(alloc, spec.at, &*theory, &group, sources)?;
     carry_out(alloc, spec.at, theory, &group, Some(&plan))
 }

@@ -86,6 +86,7 @@ fn note_one(
 }
 
 /// Names the theorems.
+#[tactic(auto, using(crate::proofs::Extending::extends_both, crate::proofs::Readying::ready_at, fp_theory::proofs::Marks::extends_itself))]
 pub(crate) fn note_each(
     alloc: Global,
     at: u32,

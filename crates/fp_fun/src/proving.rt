@@ -15,7 +15,7 @@ use fp_kernel::Thm;
 use fp_meaning::{Setting, setting};
 use fp_outcome::FunFault;
 use fp_partial::prove_psimp;
-use fp_pinduct::prove_inductions;
+use fp_pinduct::{Inductions, prove_inductions};
 use fp_proof::{Line, Proof, Stop};
 use fp_spec::names_in;
 use fp_term::{Items, Name, next};
@@ -52,14 +52,14 @@ pub(crate) fn add(
     theorems.push((name, theorem))
 }
 
-/// What is proved first: that the clauses are complete and determine one value.
+// What is proved first: that the clauses are complete and determine one value.
 #[derive(Clone, Copy)]
 struct Premises {
     complete: Line,
     det: Line,
 }
 
-fn premises(
+fn proved_premises(
     at: u32,
     name: &Name,
     proof: &mut Proof<'_>,
@@ -138,13 +138,34 @@ fn add_psimps(
     ensures err { IfErr result IsShownFault }
 {
     let mut lines = Items::new(proof.alloc());
-    let mut number = 0u32;
-    for _ in 0..setting.group.clauses.as_slice().len() {
-        let line = add_psimp(at, first, proof, setting, premises, number, theorems)?;
-        lines.push(line)?;
-        number = next(number)?;
+    for index in 0..setting.group.clauses.as_slice().len() {
+        let Ok(number) = u32::try_from(index) else {
+            return Err(FunFault::NoMemory);
+        };
+        lines.push(add_psimp(at, first, proof, setting, premises, number, theorems)?)?;
     }
     Ok(lines)
+}
+
+// The rule of induction of the function of that number and name.
+fn add_pinduct(
+    at: u32,
+    proof: &mut Proof<'_>,
+    setting: &Setting<'_>,
+    inductions: &Inductions,
+    index: u32,
+    name: Name,
+    theorems: &mut Items<(Name, Thm)>,
+) -> Result<Line, FunFault>
+    requires ready { AreReady proof.old theorems.old }
+    ensures same { OnOk result (proof.new ≡ proof.old) }
+    ensures ready { OnOk result (AreReady proof.old theorems.new) }
+    ensures err { IfErr result IsShownFault }
+{
+    match inductions.theorem(proof, setting, index) {
+        Ok(theorem) => kept(at, proof, theorems, name, theorem),
+        Err(stop) => Err(unproved(at, stop, &name)),
+    }
 }
 
 fn add_pinducts(
@@ -168,10 +189,7 @@ fn add_pinducts(
     let mut index = 0u32;
     for head in setting.group.heads.as_slice() {
         let name = pinduct_name(proof.alloc(), &head.name)?;
-        match inductions.theorem(proof, setting, index) {
-            Ok(theorem) => lines.push(kept(at, proof, theorems, name, theorem)?)?,
-            Err(stop) => return Err(unproved(at, stop, &name)),
-        }
+        lines.push(add_pinduct(at, proof, setting, &inductions, index, name, theorems)?)?;
         index = next(index)?;
     }
     Ok(lines)
@@ -195,7 +213,7 @@ fn add_all(
         Ok(setting) => setting,
         Err(stop) => return Err(unproved(at, stop, first)),
     };
-    let premises = premises(at, first, proof, &setting)?;
+    let premises = proved_premises(at, first, proof, &setting)?;
     let psimps = add_psimps(at, first, proof, &setting, premises, theorems)?;
     let pinducts = add_pinducts(at, first, proof, &setting, premises, theorems)?;
     match plan {

@@ -147,11 +147,13 @@ fn show_psimps(
     ensures items { OnOk result (AreNamed theory.now items.new) }
     ensures err { IfErr result IsShownFault }
 {
-    let mut number = 0u32;
-    for _ in 0..group.clauses.as_slice().len() {
+    for index in 0..group.clauses.as_slice().len() {
+        let Ok(number) = u32::try_from(index) else {
+            return Err(FunFault::NoMemory);
+        };
         let due = psimp(alloc, group, number)?;
-        number = next(number)?;
-        show(alloc, at, theory, psimp_name(alloc, first, number)?, &due, items)?;
+        let name = psimp_name(alloc, first, next(number)?)?;
+        show(alloc, at, theory, name, &due, items)?;
     }
     Ok(())
 }
@@ -168,11 +170,13 @@ fn show_simps(
     ensures items { OnOk result (AreNamed theory.now items.new) }
     ensures err { IfErr result IsShownFault }
 {
-    let mut number = 0u32;
-    for _ in 0..group.clauses.as_slice().len() {
+    for index in 0..group.clauses.as_slice().len() {
+        let Ok(number) = u32::try_from(index) else {
+            return Err(FunFault::NoMemory);
+        };
         let due = simp_statement(alloc, group, number)?;
-        number = next(number)?;
-        show(alloc, at, theory, simp_name(alloc, first, number)?, &due, items)?;
+        let name = simp_name(alloc, first, next(number)?)?;
+        show(alloc, at, theory, name, &due, items)?;
     }
     Ok(())
 }

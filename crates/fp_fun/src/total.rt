@@ -35,6 +35,29 @@ fn ended(
     Ok(line)
 }
 
+// The rule of the clause of that number, from 0.
+fn add_simp(
+    at: u32,
+    first: &Name,
+    proof: &mut Proof<'_>,
+    setting: &Setting<'_>,
+    total: Line,
+    number: u32,
+    psimp: Line,
+    theorems: &mut Items<(Name, Thm)>,
+) -> Result<(), FunFault>
+    requires ready { AreReady proof.old theorems.old }
+    ensures same { OnOk result (proof.new ≡ proof.old) }
+    ensures ready { OnOk result (AreReady proof.old theorems.new) }
+    ensures err { IfErr result IsShownFault }
+{
+    let name = simp_name(proof.alloc(), first, next(number)?)?;
+    match simp_of(proof, setting, number, psimp, total) {
+        Ok(theorem) => Ok(add(proof, theorems, name, theorem)?),
+        Err(stop) => Err(unproved(at, stop, &name)),
+    }
+}
+
 fn add_simps(
     at: u32,
     first: &Name,
@@ -51,11 +74,7 @@ fn add_simps(
 {
     let mut number = 0u32;
     for psimp in psimps {
-        let name = simp_name(proof.alloc(), first, next(number)?)?;
-        match simp_of(proof, setting, number, *psimp, total) {
-            Ok(theorem) => add(proof, theorems, name, theorem)?,
-            Err(stop) => return Err(unproved(at, stop, &name)),
-        }
+        add_simp(at, first, proof, setting, total, number, *psimp, theorems)?;
         number = next(number)?;
     }
     Ok(())
