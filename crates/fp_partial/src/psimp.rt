@@ -41,7 +41,6 @@ pub fn prove_psimp(
 }
 
 /// The partial rules of all clauses, in order.
-#[tactic(auto, using(crate::proofs::Listed::rules_pushed, fp_retrace::proofs::Stood::within_pushed))]
 pub fn prove_psimps(
     proof: &mut Proof<'_>,
     setting: &Setting<'_>,
