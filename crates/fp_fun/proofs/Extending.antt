@@ -1,11 +1,11 @@
 -- A theory that has grown by definitions and by named theorems.
 use Rattle.std.proofs.Common.{◌≡◌, ◌∙◌, ℕ, List, [], ◌∷◌, ◌++◌, refl, sym, ap, subst}
-use Rattle.std.specs.Prelude.{Result, Ok, Err, OnOk, OnErr, IfOk}
+use Rattle.std.specs.Prelude.{Result, Ok, Err}
 use Rattle.std.proofs.lemmas.List.{append_assoc, append-nil}
 use Rattle.fp_term.specs.Terms.{Tm}
 use Rattle.fp_kernel.specs.Definitions.{Def, Within, whole, newer}
 use Rattle.fp_kernel.specs.Theorems.{Theorem}
-use Rattle.fp_theory.specs.State.{State, with_theorem, over}
+use Rattle.fp_theory.specs.State.{State, with_theorem}
 use Rattle.fp_theory.specs.Defining.{def_name, DefinesIn}
 use Rattle.fp_theory.specs.Changes.{Extends, Notes}
 use Rattle.fp_theory.specs.declared.fault.NoteFault.{NoteFault}
@@ -55,7 +55,10 @@ pub group_defined : (s t : State) (terms : List (List ℕ × Tm)) (ths : List Th
 group_defined s t terms ths h = each h
 
 pub noted : (s t : State) (name : List ℕ) (th : Theorem) (r : Result (Unit {0}) NoteFault) → Notes s t name th r → Extends s t
-noted s t name th (Ok u) h = subst (Extends s) (sym h.1.1) (with_one s name th)
-noted s t name th (Err (NameTaken a)) h = subst (Extends s) (sym h.1.1) (extends_itself s)
-noted s t name th (Err (HasPromise n)) h = subst (Extends s) (sym h.1.1) (extends_itself s)
+noted s t name th (Ok u) h = subst (Extends s) (sym h.2) (with_one s name th)
+noted s t name th (Err (NameTaken a)) h = subst (Extends s) (sym h.2) (extends_itself s)
+noted s t name th (Err (HasPromise n)) h = subst (Extends s) (sym h.2) (extends_itself s)
 noted s t name th (Err NoMemory) h = subst (Extends s) (sym h) (extends_itself s)
+
+pub unchanged : (s t : State) → t ≡ s → Extends s t
+unchanged s t e = subst (Extends s) (sym e) (extends_itself s)

@@ -3,7 +3,7 @@ use Rattle.std.specs.Prelude.{◌≡◌, List, [], ◌∷◌, ◌++◌, Result, 
 use Rattle.fp_term.specs.Types.{Typ}
 use Rattle.fp_term.specs.Terms.{Tm}
 use Rattle.fp_term.specs.Typing.{function_type}
-use Rattle.fp_measure.specs.Sources.{natural, IsMeasure, AreMeasures}
+use Rattle.fp_measure.specs.Sources.{natural, AreMeasures}
 use Rattle.fp_print.specs.Numbers.{AllHaveOnly}
 use Rattle.fp_print.proofs.Loose.{typed_has_only}
 use Rattle.fp_outcome.specs.Shown.{ListsHaveOnly}
@@ -16,11 +16,9 @@ pub measures_shown : {E : Type 0} (r : Result (List Tm) E) (ty : Typ) → IfOk r
 measures_shown (Ok ts) ty h = all_shown ty ts h
 measures_shown (Err f) ty h = tt
 
-more : (old new : List (List Tm)) (ts : List Tm) → new ≡ old ++ ts ∷ [] → ListsHaveOnly old → AllHaveOnly 0 ts → ListsHaveOnly new
-one_more old new ts e h k = rw e (more old ts h k)
+with_last : (old : List (List Tm)) (ts : List Tm) → ListsHaveOnly old → AllHaveOnly 0 ts → ListsHaveOnly (old ++ ts ∷ [])
+with_last [] ts h k = (k, tt)
+with_last (x ∷ xs) ts h k = (h.0, with_last xs ts h.1 k)
 
-more : (old : List (List Tm)) (ts : List Tm) → ListsHaveOnly old → AllHaveOnly 0 ts → ListsHaveOnly (old ++ ts ∷ [])
-more [] ts h k = (k, tt)
-more (x ∷ xs) ts h k = (h.0, more xs ts h.1 k)
-
-pub one_
+pub one_more : (old new : List (List Tm)) (ts : List Tm) → new ≡ old ++ ts ∷ [] → ListsHaveOnly old → AllHaveOnly 0 ts → ListsHaveOnly new
+one_more old new ts e h k = rw e (with_last old ts h k)

@@ -1,7 +1,6 @@
 -- Theorems that can be named, with one more.
 use Rattle.std.specs.Prelude.{◌≡◌, ℕ, List, [], ◌∷◌, ◌++◌, Result, Ok, Err, OnOk}
 use Rattle.std.proofs.Common.{◌<◌, zero, suc, length, get_or, refl, arith}
-use Rattle.fp_term.specs.Terms.{Tm}
 use Rattle.fp_kernel.specs.Definitions.{Def, Within}
 use Rattle.fp_kernel.specs.Theorems.{Theorem, plain}
 use Rattle.fp_theory.specs.State.{IsNoted}

@@ -1,5 +1,5 @@
 -- What is shown of a group: named theorems, and an order.
-use Rattle.std.specs.Prelude.{◌≡◌, ℕ, List, [], ◌∷◌, Option, Some}
+use Rattle.std.specs.Prelude.{◌≡◌, ℕ, List, [], ◌∷◌, Some}
 use Rattle.fp_term.specs.Terms.{Tm}
 use Rattle.fp_term.specs.declared.statement.Statement.{Statement}
 use Rattle.fp_kernel.specs.Theorems.{Theorem, IsTheorem}

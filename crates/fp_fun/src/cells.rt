@@ -133,7 +133,15 @@ pub(crate) fn cell_lines(
     let mut lines = Items::new(alloc);
     for cell in plan.cells.as_slice() {
         if is_used(plan, *cell) {
-            add_cell_of(proof, theorems.as_slice(), &rules, group, plan, *cell, &mut lines)?;
+            add_cell_of(
+                proof,
+                theorems.as_slice(),
+                &rules,
+                group,
+                plan,
+                *cell,
+                &mut lines,
+            )?;
         }
     }
     Ok(lines)

@@ -18,7 +18,6 @@ use fp_theory::Theory;
 use std::alloc::Global;
 
 // Defines the group, proves its theorems and names them.
-#[tactic(auto, using(crate::proofs::Extending::extends_both))]
 fn made(
     alloc: Global,
     at: u32,
@@ -45,7 +44,7 @@ fn carried_out(
     plan: Option<&Plan>,
 ) -> Result<Items<FunItem>, FunFault>
     requires some { 0 < length group.now.heads }
-    requires measures { IfSome plan.entry (λ p. ListsHaveOnly p.now.measures) }
+    requires measures { IfSome plan (λ p. ListsHaveOnly p.now.measures) }
     ensures extends { Extends theory.old theory.new }
     ensures items { IfOk result (AreNamed theory.new) }
     ensures err { IfErr result IsShownFault }
@@ -65,7 +64,7 @@ fn carry_out(
     plan: Option<&Plan>,
 ) -> Result<Items<FunItem>, FunFault>
     requires some { 0 < length group.now.heads }
-    requires measures { IfSome plan.entry (λ p. ListsHaveOnly p.now.measures) }
+    requires measures { IfSome plan (λ p. ListsHaveOnly p.now.measures) }
     ensures items { IfOk result (AreNamed theory.new) }
     ensures same { OnErr result (theory.new ≡ theory.old) }
     ensures err { IfErr result IsShownFault }
@@ -97,7 +96,7 @@ pub fn function_command(
     theory: &mut Theory,
     spec: GroupSpec<'_>,
 ) -> Result<Items<FunItem>, FunFault>
-    requires some { 0 < length spec.entry.heads.now }
+    requires some { 0 < length spec.heads.now }
     ensures items { IfOk result (AreNamed theory.new) }
     ensures same { OnErr result (theory.new ≡ theory.old) }
     ensures err { IfErr result IsShownFault }
@@ -117,7 +116,7 @@ pub fn fun_command(
     spec: GroupSpec<'_>,
     sources: &[Box<dyn MeasureSource + Send + Sync>],
 ) -> Result<Items<FunItem>, FunFault>
-    requires some { 0 < length spec.entry.heads.now }
+    requires some { 0 < length spec.heads.now }
     ensures items { IfOk result (AreNamed theory.new) }
     ensures same { OnErr result (theory.new ≡ theory.old) }
     ensures err { IfErr result IsShownFault }

@@ -32,7 +32,7 @@ fn of_definition(at: u32, first: &Name, fault: DefFault) -> FunFault
 }
 
 /// Defines the group's constants.
-#[tactic(auto, using(crate::proofs::Extending::group_defined, fp_theory::proofs::Marks::extends_itself))]
+#[tactic(auto, using(crate::proofs::Extending::group_defined))]
 pub(crate) fn defined(
     alloc: Global,
     at: u32,
@@ -66,7 +66,7 @@ fn of_note(at: u32, name: &Name, fault: NoteFault) -> FunFault
     }
 }
 
-#[tactic(auto, using(crate::proofs::Extending::noted, fp_theory::proofs::Marks::extends_itself))]
+#[tactic(auto, using(crate::proofs::Extending::noted, crate::proofs::Extending::unchanged, fp_theory::proofs::Marks::extends_itself))]
 fn note_one(
     alloc: Global,
     at: u32,
@@ -86,7 +86,7 @@ fn note_one(
 }
 
 /// Names the theorems.
-#[tactic(auto, using(crate::proofs::Extending::extends_both, crate::proofs::Readying::ready_at, fp_theory::proofs::Marks::extends_itself))]
+#[tactic(auto, using(crate::proofs::Extending::extends_both))]
 pub(crate) fn note_each(
     alloc: Global,
     at: u32,
@@ -97,8 +97,8 @@ pub(crate) fn note_each(
     ensures extends { Extends theory.old theory.new }
     ensures err { IfErr result IsShownFault }
 {
-    for (name, theorem) in theorems {
-        note_one(alloc, at, theory, name, theorem)?;
+    for named in theorems {
+        note_one(alloc, at, theory, &named.0, &named.1)?;
     }
     Ok(())
 }

@@ -22,7 +22,6 @@ use fp_term::{Items, Name, next};
 use fp_theory::Theory;
 use std::alloc::{AllocError, Global};
 
-
 /// That the theorem of that name isn't proved, or want of memory.
 pub(crate) fn unproved(at: u32, stop: Stop, name: &Name) -> FunFault
     ensures { IsShownFault result }
@@ -37,7 +36,6 @@ pub(crate) fn unproved(at: u32, stop: Stop, name: &Name) -> FunFault
 }
 
 /// Puts a theorem at the end, under its name.
-#[tactic(auto, using(crate::proofs::Readying::pushed))]
 pub(crate) fn add(
     proof: &Proof<'_>,
     theorems: &mut Items<(Name, Thm)>,

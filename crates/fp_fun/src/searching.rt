@@ -24,7 +24,7 @@ use std::alloc::{AllocError, Global};
 const MOST_MEASURES: u32 = 6;
 
 // The measures of what the function takes.
-#[tactic(auto, using(crate::proofs::Measured::measures_shown))]
+
 fn measures_of(
     alloc: Global,
     sources: &[Box<dyn MeasureSource + Send + Sync>],
@@ -78,11 +78,7 @@ fn add_row(rows: &mut List<(u32, u32)>, count: usize, site: &CallSite) -> Result
     rows.push((site.caller, site.callee))
 }
 
-fn rows_of(
-    alloc: Global,
-    count: usize,
-    sites: &[CallSite],
-) -> Result<List<(u32, u32)>, AllocError>
+fn rows_of(alloc: Global, count: usize, sites: &[CallSite]) -> Result<List<(u32, u32)>, AllocError>
     ensures { IfOk result (AreRowsBelow count) }
 {
     let mut rows = List::new(alloc);
@@ -92,7 +88,6 @@ fn rows_of(
     Ok(rows)
 }
 
-#[tactic(auto, using(crate::proofs::Rows::is_grid))]
 fn grid_of(alloc: Global, measures: &[Items<Term>], sites: &[CallSite]) -> Result<Grid, AllocError>
     ensures { IfOk result IsGrid }
 {

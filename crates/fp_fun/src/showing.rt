@@ -196,7 +196,14 @@ fn show_pinducts(
     let mut index = 0u32;
     for head in group.heads.as_slice() {
         let due = pinduct(alloc, group, index)?;
-        show(alloc, at, theory, pinduct_name(alloc, &head.name)?, &due, items)?;
+        show(
+            alloc,
+            at,
+            theory,
+            pinduct_name(alloc, &head.name)?,
+            &due,
+            items,
+        )?;
         index = next(index)?;
     }
     Ok(())
@@ -217,7 +224,14 @@ fn show_inducts(
     let mut index = 0u32;
     for head in group.heads.as_slice() {
         let due = induct(alloc, group, index)?;
-        show(alloc, at, theory, induct_name(alloc, &head.name)?, &due, items)?;
+        show(
+            alloc,
+            at,
+            theory,
+            induct_name(alloc, &head.name)?,
+            &due,
+            items,
+        )?;
         index = next(index)?;
     }
     Ok(())
@@ -284,7 +298,14 @@ fn show_total(
 {
     show_order(alloc, theory, group, plan, items)?;
     let due = termination(alloc, group)?;
-    show(alloc, at, theory, termination_name(alloc, first)?, &due, items)?;
+    show(
+        alloc,
+        at,
+        theory,
+        termination_name(alloc, first)?,
+        &due,
+        items,
+    )?;
     show_simps(alloc, at, theory, first, group, items)?;
     show_inducts(alloc, at, theory, group, items)
 }
@@ -300,7 +321,7 @@ pub(crate) fn shown(
     plan: Option<&Plan>,
 ) -> Result<Items<FunItem>, FunFault>
     requires some { 0 < length group.now.heads }
-    requires measures { IfSome plan.entry (λ p. ListsHaveOnly p.now.measures) }
+    requires measures { IfSome plan (λ p. ListsHaveOnly p.now.measures) }
     ensures items { IfOk result (AreNamed theory.now) }
     ensures err { IfErr result IsShownFault }
 {
