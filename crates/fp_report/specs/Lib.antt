@@ -1,2 +1,5 @@
+pub mod Texts
 pub mod Items
+pub mod Orders
+pub mod Matrices
 pub mod Reasons

@@ -2,10 +2,14 @@
 #![tactic(auto)]
 
 mod item;
+mod matrix;
+mod number;
+mod order;
 mod reason;
 mod refusal;
 mod words;
 
 pub use item::{Item, push_item};
-pub use reason::{Cause, Kind, Naming, Reason};
+pub use matrix::{Matrix, MatrixCell, MatrixRow, RowVerdict};
+pub use reason::{Cause, Clausal, Kind, Naming, Reason, Variable};
 pub use refusal::{Refusal, push_refusal};

@@ -1,4 +1,6 @@
 //! Why a file or a command is refused.
+
+use crate::matrix::Matrix;
 use fp_term::{Name, Statement};
 
 /// A reason that its kind says whole.
@@ -19,6 +21,7 @@ pub enum Kind {
     NotRuleShape,
     NotMeasure,
     NotBuilt,
+    TooManyFunctions,
 }
 
 /// A reason that a name belongs to.
@@ -32,6 +35,8 @@ pub enum Naming {
     NoSuchTheorem,
     NotConstructor,
     LacksLemma,
+    NoClause,
+    NotProved,
 }
 
 /// Why a proof line is refused.
@@ -53,6 +58,24 @@ pub enum Cause {
     IllTyped,
 }
 
+/// A reason that a clause belongs to.
+#[derive(Clone, Copy)]
+pub enum Clausal {
+    NotClause,
+    ArityDiffers,
+    TooManyArguments,
+    Redundant,
+    TooManyClauses,
+    PartialCall,
+}
+
+/// A reason that a clause and a variable of it belong to.
+#[derive(Clone, Copy)]
+pub enum Variable {
+    NotBound,
+    NonLinear,
+}
+
 /// Why a file or a command is refused.
 #[derive(Drop)]
 pub enum Reason {
@@ -64,4 +87,13 @@ pub enum Reason {
     BadLine(u32, Cause),
     /// The last line gives another statement, or there is no line.
     WrongEnd(Option<Statement>),
+    /// The clause of that number.
+    InClause(Clausal, u32),
+    /// In the clause of that number.
+    OfVariable(Variable, u32, Name),
+    /// In the clause of that number, the argument of that number is no pattern.
+    NotPattern(u32, u32),
+    /// So many.
+    TooManyCalls(u32),
+    NoOrder(Matrix),
 }

@@ -1,12 +1,14 @@
 //! The line of a refusal.
 ghost use Rattle.std.specs.Prelude.{◌≡◌, ◌++◌, codes, OnOk};
 ghost use Rattle.std.specs.Fmt.{decimal};
-ghost use Rattle.fp_report.specs.Items.{statement_text, IsShownStatement};
-ghost use Rattle.fp_report.specs.Reasons.{refusal_line, reason_text, naming_text, cause_text, shown_byte, shown_file, IsShownReason};
+ghost use Rattle.fp_report.specs.Texts.{statement_text, IsShownStatement};
+ghost use Rattle.fp_report.specs.Reasons.{refusal_line, reason_text, reason_lines, naming_text, cause_text, variable_text, shown_byte, shown_file, IsShownReason};
 
 use crate::item::push_statement;
-use crate::reason::{Cause, Naming, Reason};
-use crate::words::{cause_text, kind_text, naming_text};
+use crate::matrix::push_matrix;
+use crate::number::push_number;
+use crate::reason::{Cause, Naming, Reason, Variable};
+use crate::words::{cause_text, clausal_text, kind_text, naming_text, variable_text};
 use fp_term::{Name, Statement};
 use std::alloc::AllocError;
 
@@ -15,14 +17,6 @@ use std::alloc::AllocError;
 pub struct Refusal {
     pub at: u32,
     pub reason: Reason,
-}
-
-// Puts a number at the end.
-fn push_number(text: &mut Vec<u8>, number: u32) -> Result<(), AllocError>
-    ensures { OnOk result (text.new.items ≡ text.old.items ++ decimal number) }
-{
-    let digits = number.to_string(*text.allocator())?;
-    text.extend_from_slice(digits.as_bytes())
 }
 
 fn push_of(text: &mut Vec<u8>, naming: Naming, name: &Name) -> Result<(), AllocError>
@@ -56,6 +50,34 @@ fn push_end(text: &mut Vec<u8>, full: bool, got: &Statement) -> Result<(), Alloc
     push_statement(text, full, got)
 }
 
+// Puts a word and a number at the end.
+fn push_clause(text: &mut Vec<u8>, word: &[u8], number: u32) -> Result<(), AllocError>
+    ensures { OnOk result (text.new.items ≡ text.old.items ++ (word.now ++ decimal number)) }
+{
+    text.extend_from_slice(word)?;
+    push_number(text, number)
+}
+
+fn push_variable(
+    text: &mut Vec<u8>,
+    variable: Variable,
+    clause: u32,
+    name: &Name,
+) -> Result<(), AllocError>
+    ensures { OnOk result (text.new.items ≡ text.old.items ++ (variable_text variable ++ (decimal clause ++ (codes " " ++ name.now)))) }
+{
+    push_clause(text, variable_text(variable), clause)?;
+    text.extend_from_slice(b" ")?;
+    text.extend_from_slice(name.as_slice())
+}
+
+fn push_argument(text: &mut Vec<u8>, clause: u32, argument: u32) -> Result<(), AllocError>
+    ensures { OnOk result (text.new.items ≡ text.old.items ++ (codes "NotPattern " ++ (decimal clause ++ (codes " " ++ decimal argument)))) }
+{
+    push_clause(text, b"NotPattern ", clause)?;
+    push_clause(text, b" ", argument)
+}
+
 // Puts a reason at the end.
 fn push_reason(text: &mut Vec<u8>, full: bool, reason: &Reason) -> Result<(), AllocError>
     requires { IsShownReason reason.now }
@@ -68,6 +90,11 @@ fn push_reason(text: &mut Vec<u8>, full: bool, reason: &Reason) -> Result<(), Al
         Reason::BadLine(line, cause) => push_line(text, *line, *cause),
         Reason::WrongEnd(Some(got)) => push_end(text, full, got),
         Reason::WrongEnd(None) => text.extend_from_slice(b"WrongEnd nothing"),
+        Reason::InClause(clausal, clause) => push_clause(text, clausal_text(*clausal), *clause),
+        Reason::OfVariable(variable, clause, name) => push_variable(text, *variable, *clause, name),
+        Reason::NotPattern(clause, argument) => push_argument(text, *clause, *argument),
+        Reason::TooManyCalls(number) => push_clause(text, b"TooManyCalls ", *number),
+        Reason::NoOrder(_) => text.extend_from_slice(b"NoOrder"),
     }
 }
 
@@ -103,7 +130,18 @@ fn push_head(text: &mut Vec<u8>, file: &str, at: u32) -> Result<(), AllocError>
     text.extend_from_slice(b": ")
 }
 
-/// Puts the line of a refusal at the end.
+// Puts the lines behind that of a refusal at the end.
+fn push_lines(text: &mut Vec<u8>, full: bool, reason: &Reason) -> Result<(), AllocError>
+    requires { IsShownReason reason.now }
+    ensures { OnOk result (text.new.items ≡ text.old.items ++ reason_lines full reason.now) }
+{
+    match reason {
+        Reason::NoOrder(matrix) => push_matrix(text, full, matrix),
+        _ => Ok(()),
+    }
+}
+
+/// Puts the line of a refusal at the end, and the lines of a matrix behind it.
 pub fn push_refusal(
     text: &mut Vec<u8>,
     full: bool,
@@ -115,5 +153,6 @@ pub fn push_refusal(
 {
     push_head(text, file, refusal.at)?;
     push_reason(text, full, &refusal.reason)?;
-    text.extend_from_slice(b"\n")
+    text.extend_from_slice(b"\n")?;
+    push_lines(text, full, &refusal.reason)
 }

@@ -1,8 +1,8 @@
 //! The words of reasons.
 ghost use Rattle.std.specs.Prelude.{◌≡◌};
-ghost use Rattle.fp_report.specs.Reasons.{kind_text, naming_text, cause_text};
+ghost use Rattle.fp_report.specs.Reasons.{kind_text, naming_text, cause_text, clausal_text, variable_text};
 
-use crate::reason::{Cause, Kind, Naming};
+use crate::reason::{Cause, Clausal, Kind, Naming, Variable};
 
 /// The word of a kind.
 pub(crate) fn kind_text(kind: Kind) -> &'static [u8]
@@ -24,6 +24,7 @@ pub(crate) fn kind_text(kind: Kind) -> &'static [u8]
         Kind::NotRuleShape => b"NotRuleShape",
         Kind::NotMeasure => b"NotMeasure",
         Kind::NotBuilt => b"NotBuilt",
+        Kind::TooManyFunctions => b"TooManyFunctions",
     }
 }
 
@@ -40,6 +41,8 @@ pub(crate) fn naming_text(naming: Naming) -> &'static [u8]
         Naming::NoSuchTheorem => b"NoSuchTheorem ",
         Naming::NotConstructor => b"NotConstructor ",
         Naming::LacksLemma => b"LacksLemma ",
+        Naming::NoClause => b"NoClause ",
+        Naming::NotProved => b"NotProved ",
     }
 }
 
@@ -62,5 +65,29 @@ pub(crate) fn cause_text(cause: Cause) -> &'static [u8]
         Cause::Differ => b"Differ",
         Cause::FreeInHyps => b"FreeInHyps",
         Cause::IllTyped => b"IllTyped",
+    }
+}
+
+/// The word before the number of a clause.
+pub(crate) fn clausal_text(clausal: Clausal) -> &'static [u8]
+    ensures { result.now ≡ clausal_text clausal }
+{
+    match clausal {
+        Clausal::NotClause => b"NotClause ",
+        Clausal::ArityDiffers => b"ArityDiffers ",
+        Clausal::TooManyArguments => b"TooManyArguments ",
+        Clausal::Redundant => b"Redundant ",
+        Clausal::TooManyClauses => b"TooManyClauses ",
+        Clausal::PartialCall => b"PartialCall ",
+    }
+}
+
+/// The word before the number of a clause and the name of a variable.
+pub(crate) fn variable_text(variable: Variable) -> &'static [u8]
+    ensures { result.now ≡ variable_text variable }
+{
+    match variable {
+        Variable::NotBound => b"NotBound ",
+        Variable::NonLinear => b"NonLinear ",
     }
 }

@@ -1,5 +1,5 @@
 use Rattle.std.proofs.Common.{◌≡◌, ◌++◌, drop}
-use Rattle.fp_report.specs.Items.{commas_before}
+use Rattle.fp_report.specs.Texts.{commas_before}
 use Rattle.fp_report.proofs.item.push_later.Given as goal
 
 -- the names that are left go behind the text
