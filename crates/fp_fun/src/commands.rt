@@ -12,7 +12,8 @@ use crate::showing::shown;
 use fp_admit::{GroupSpec, admit};
 use fp_group::Group;
 use fp_measure::MeasureSource;
-use fp_outcome::{FunFault, FunItem};
+use fp_outcome::FunFault;
+use fp_report::Item;
 use fp_term::{Items, Name};
 use fp_theory::Theory;
 use std::alloc::Global;
@@ -42,7 +43,7 @@ fn carried_out(
     theory: &mut Theory,
     group: &Group,
     plan: Option<&Plan>,
-) -> Result<Items<FunItem>, FunFault>
+) -> Result<Items<Item>, FunFault>
     requires some { 0 < length group.now.heads }
     requires measures { IfSome plan (λ p. ListsHaveOnly p.now.measures) }
     ensures extends { Extends theory.old theory.new }
@@ -62,7 +63,7 @@ fn carry_out(
     theory: &mut Theory,
     group: &Group,
     plan: Option<&Plan>,
-) -> Result<Items<FunItem>, FunFault>
+) -> Result<Items<Item>, FunFault>
     requires some { 0 < length group.now.heads }
     requires measures { IfSome plan (λ p. ListsHaveOnly p.now.measures) }
     ensures items { IfOk result (AreNamed theory.new) }
@@ -95,7 +96,7 @@ pub fn function_command(
     alloc: Global,
     theory: &mut Theory,
     spec: GroupSpec<'_>,
-) -> Result<Items<FunItem>, FunFault>
+) -> Result<Items<Item>, FunFault>
     requires some { 0 < length spec.heads.now }
     ensures items { IfOk result (AreNamed theory.new) }
     ensures same { OnErr result (theory.new ≡ theory.old) }
@@ -115,7 +116,7 @@ pub fn fun_command(
     theory: &mut Theory,
     spec: GroupSpec<'_>,
     sources: &[Box<dyn MeasureSource + Send + Sync>],
-) -> Result<Items<FunItem>, FunFault>
+) -> Result<Items<Item>, FunFault>
     requires some { 0 < length spec.heads.now }
     ensures items { IfOk result (AreNamed theory.new) }
     ensures same { OnErr result (theory.new ≡ theory.old) }

@@ -13,4 +13,5 @@ mod total;
 
 pub use commands::{fun_command, function_command};
 pub use fp_admit::GroupSpec;
-pub use fp_outcome::{FunFault, FunItem, OrderPart};
+pub use fp_outcome::{FunFault, OrderPart};
+pub use fp_report::Item;

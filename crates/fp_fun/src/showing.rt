@@ -2,7 +2,8 @@
 ghost use Rattle.std.specs.Prelude.{◌≡◌, ◌<◌, [], ◌∷◌, length, IfOk, IfErr, IfSome, OnOk};
 ghost use Rattle.fp_kernel.specs.Theorems.{IsTheorem};
 ghost use Rattle.fp_kernel.specs.Conservative.{IsConservative};
-ghost use Rattle.fp_outcome.specs.Shown.{ListsHaveOnly, IsShownStatement, IsShownFault};
+ghost use Rattle.fp_outcome.specs.Shown.{ListsHaveOnly, IsShownFault};
+ghost use Rattle.fp_report.specs.Texts.{IsShownStatement};
 ghost use Rattle.fp_fun.specs.Named.{stated, IsNamed, IsNamedItem, AreNamed};
 
 use crate::plan::Plan;
@@ -13,8 +14,9 @@ use fp_admit::{
 use fp_conclude::equation;
 use fp_group::{Group, Head};
 use fp_kernel::Thm;
-use fp_outcome::{FunFault, FunItem, parts_of};
+use fp_outcome::{FunFault, parts_of};
 use fp_proof::Stop;
+use fp_report::Item;
 use fp_spec::{defining_terms, induct, pinduct, psimp, simp_statement, termination};
 use fp_term::{Items, Name, Statement, Term, TypeOfFault, next, same, type_of};
 use fp_theory::Theory;
@@ -59,7 +61,7 @@ fn named(
 }
 
 #[tactic(auto, using(crate::proofs::Stating::pushed))]
-fn push(theory: &Theory, items: &mut Items<FunItem>, item: FunItem) -> Result<(), AllocError>
+fn push(theory: &Theory, items: &mut Items<Item>, item: Item) -> Result<(), AllocError>
     requires items { AreNamed theory.now items.old }
     requires item { IsNamedItem theory.now item }
     ensures { OnOk result (AreNamed theory.now items.new) }
@@ -74,14 +76,14 @@ fn show(
     theory: &Theory,
     name: Name,
     due: &Term,
-    items: &mut Items<FunItem>,
+    items: &mut Items<Item>,
 ) -> Result<(), FunFault>
     requires { AreNamed theory.now items.old }
     ensures items { OnOk result (AreNamed theory.now items.new) }
     ensures err { IfErr result IsShownFault }
 {
     match named(alloc, at, theory, &name, due) {
-        Ok(statement) => Ok(push(theory, items, FunItem::Theorem(name, statement))?),
+        Ok(statement) => Ok(push(theory, items, Item::Theorem(name, statement))?),
         Err(fault) => Err(fault),
     }
 }
@@ -103,7 +105,7 @@ fn show_definition(
     theory: &Theory,
     name: &Name,
     body: &Term,
-    items: &mut Items<FunItem>,
+    items: &mut Items<Item>,
 ) -> Result<(), FunFault>
     requires { AreNamed theory.now items.old }
     ensures items { OnOk result (AreNamed theory.now items.new) }
@@ -112,7 +114,7 @@ fn show_definition(
     let due = definition_of(alloc, name, body)?;
     let label = definition_name(alloc, name)?;
     match named(alloc, at, theory, &label, &due) {
-        Ok(statement) => Ok(push(theory, items, FunItem::Definition(label, statement))?),
+        Ok(statement) => Ok(push(theory, items, Item::Definition(label, statement))?),
         Err(fault) => Err(fault),
     }
 }
@@ -122,7 +124,7 @@ fn show_definitions(
     at: u32,
     theory: &Theory,
     terms: &[(Name, Term)],
-    items: &mut Items<FunItem>,
+    items: &mut Items<Item>,
 ) -> Result<(), FunFault>
     requires { AreNamed theory.now items.old }
     ensures items { OnOk result (AreNamed theory.now items.new) }
@@ -140,7 +142,7 @@ fn show_psimps(
     theory: &Theory,
     first: &Name,
     group: &Group,
-    items: &mut Items<FunItem>,
+    items: &mut Items<Item>,
 ) -> Result<(), FunFault>
     requires some { 0 < length group.now.heads }
     requires items { AreNamed theory.now items.old }
@@ -164,7 +166,7 @@ fn show_simps(
     theory: &Theory,
     first: &Name,
     group: &Group,
-    items: &mut Items<FunItem>,
+    items: &mut Items<Item>,
 ) -> Result<(), FunFault>
     requires items { AreNamed theory.now items.old }
     ensures items { OnOk result (AreNamed theory.now items.new) }
@@ -186,7 +188,7 @@ fn show_pinducts(
     at: u32,
     theory: &Theory,
     group: &Group,
-    items: &mut Items<FunItem>,
+    items: &mut Items<Item>,
 ) -> Result<(), FunFault>
     requires some { 0 < length group.now.heads }
     requires items { AreNamed theory.now items.old }
@@ -214,7 +216,7 @@ fn show_inducts(
     at: u32,
     theory: &Theory,
     group: &Group,
-    items: &mut Items<FunItem>,
+    items: &mut Items<Item>,
 ) -> Result<(), FunFault>
     requires some { 0 < length group.now.heads }
     requires items { AreNamed theory.now items.old }
@@ -243,7 +245,7 @@ fn show_partial(
     theory: &Theory,
     first: &Name,
     group: &Group,
-    items: &mut Items<FunItem>,
+    items: &mut Items<Item>,
 ) -> Result<(), FunFault>
     requires some { 0 < length group.now.heads }
     requires items { AreNamed theory.now items.old }
@@ -270,7 +272,7 @@ fn show_order(
     theory: &Theory,
     group: &Group,
     plan: &Plan,
-    items: &mut Items<FunItem>,
+    items: &mut Items<Item>,
 ) -> Result<(), AllocError>
     requires measures { ListsHaveOnly plan.now.measures }
     requires items { AreNamed theory.now items.old }
@@ -278,7 +280,7 @@ fn show_order(
 {
     let names = names_of(alloc, group.heads.as_slice())?;
     let parts = parts_of(alloc, plan.measures.as_slice(), &plan.found)?;
-    push(theory, items, FunItem::Order(names, parts))
+    push(theory, items, Item::Order(names, parts))
 }
 
 fn show_total(
@@ -288,7 +290,7 @@ fn show_total(
     first: &Name,
     group: &Group,
     plan: &Plan,
-    items: &mut Items<FunItem>,
+    items: &mut Items<Item>,
 ) -> Result<(), FunFault>
     requires some { 0 < length group.now.heads }
     requires measures { ListsHaveOnly plan.now.measures }
@@ -319,7 +321,7 @@ pub(crate) fn shown(
     first: &Name,
     group: &Group,
     plan: Option<&Plan>,
-) -> Result<Items<FunItem>, FunFault>
+) -> Result<Items<Item>, FunFault>
     requires some { 0 < length group.now.heads }
     requires measures { IfSome plan (λ p. ListsHaveOnly p.now.measures) }
     ensures items { IfOk result (AreNamed theory.now) }
