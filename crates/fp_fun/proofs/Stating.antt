@@ -1,6 +1,6 @@
 -- What is shown of named theorems.
 use Rattle.std.proofs.Common.{◌≡◌, ℕ, List, [], ◌∷◌, ◌++◌}
-use Rattle.std.specs.Prelude.{Some, Result, Ok, Err, OnOk}
+use Rattle.std.specs.Prelude.{Some, Result, Ok, Err, OnOk, IfOk}
 use Rattle.fp_term.specs.Terms.{Tm}
 use Rattle.fp_term.specs.declared.signature.Signature.{Signature}
 use Rattle.fp_term.specs.declared.statement.Statement.{Statement}
