@@ -1,4 +1,4 @@
-//! What comes of a command for a group of functions: what it shows, or why it is refused.
+//! What comes of a command for a group of functions: the order by which they end, or why it is refused.
 #![tactic(auto)]
 
 mod fault;
@@ -6,5 +6,5 @@ mod item;
 mod parts;
 
 pub use fault::FunFault;
-pub use item::{FunItem, OrderPart};
+pub use item::OrderPart;
 pub use parts::parts_of;

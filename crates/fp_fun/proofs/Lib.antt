@@ -1,0 +1,5 @@
+pub mod Extending
+pub mod Measured
+pub mod Readying
+pub mod Rows
+pub mod Stating

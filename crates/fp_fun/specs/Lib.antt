@@ -1,0 +1,3 @@
+pub mod Grids
+pub mod Named
+pub mod Ready
