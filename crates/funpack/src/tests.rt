@@ -1,6 +1,7 @@
 // The program's run over files and a sink in memory.
-use crate::run::run;
 use fp_outside::{MemFiles, MemSink};
+use fp_run::run;
+use fp_theory::Theory;
 use std::alloc::{AllocError, Global};
 use std::process::Abort;
 use std::test::Fail;
@@ -39,7 +40,11 @@ fn try_row(rt: &impl Abort, alloc: Global, row: Row<'_>) -> Result<(), AllocErro
     files.fail_at(row.file_call);
     let mut sink = MemSink::with_room(alloc, row.room)?;
     sink.fail_at(row.sink_call);
-    assert_eq!(rt; run(alloc, &words, &mut files, &mut sink), row.status);
+    let mut theory = Theory::new(alloc)?;
+    assert_eq!(rt;
+        run(alloc, &words, &mut files, &mut sink, &mut theory),
+        row.status
+    );
     assert_eq!(rt; sink.written(), row.written);
     Ok(())
 }
@@ -115,11 +120,11 @@ fn refused_definitions(rt: HostRuntime) -> Result<(), Fail> {
         ),
         (
             b"definition c = {(c T (ind))}",
-            b"refused a.hol at 15: UnknownName T\n",
+            b"refused a.hol at 15: Clash\n",
         ),
         (
             b"definition c = {(l (bool (bool)) (b 0))}",
-            b"refused a.hol at 15: UnknownName bool\n",
+            b"refused a.hol at 15: BadArity bool\n",
         ),
         (b"definition c = {(b 0)}", b"refused a.hol at 15: Clash\n"),
         (
@@ -167,7 +172,57 @@ fn refusals_in_order(rt: HostRuntime) -> Result<(), Fail> {
         ),
         (
             b"definition c = {(c c (bool))} definition c = {",
-            b"refused a.hol at 46: Syntax\n",
+            b"refused a.hol at 45: OpenQuote\n",
+        ),
+    ];
+    for (bytes, line) in rows {
+        try_file(&rt, alloc, bytes, 1, line)?;
+    }
+    Ok(())
+}
+
+// Written terms, and what a type and a lemma are made of.
+#[test]
+fn refused_commands(rt: HostRuntime) -> Result<(), Fail> {
+    let alloc = rt.alloc();
+    let rows: [(&[u8], &[u8]); 11] = [
+        (
+            b"definition c = \"(%x. x) = (%x. x)\"",
+            b"refused a.hol at 0: HiddenType 'a\n",
+        ),
+        (
+            b"definition c = \"T /\\ y\"",
+            b"refused a.hol at 0: NotClosed y\n",
+        ),
+        (
+            b"definition c = \"y::(bool,bool) bool\"",
+            b"refused a.hol at 31: BadArity bool\n",
+        ),
+        (b"definition c = \"T T\"", b"refused a.hol at 16: Clash\n"),
+        (
+            b"lemma n: \"%x. x\" proof end",
+            b"refused a.hol at 0: NotBool\n",
+        ),
+        (
+            b"lemma ETA: \"T\" proof end",
+            b"refused a.hol at 0: NameTaken ETA\n",
+        ),
+        (
+            b"typedef t abs a rep a by T_def",
+            b"refused a.hol at 0: NameTaken a\n",
+        ),
+        (
+            b"typedef t abs a rep r by none",
+            b"refused a.hol at 0: NoSuchTheorem none\n",
+        ),
+        (
+            b"typedef t abs a rep r by ETA",
+            b"refused a.hol at 0: NotClosed t\n",
+        ),
+        (b" simp none", b"refused a.hol at 1: NotBuilt\n"),
+        (
+            b"fun f :: \"bool\" where \"f\"",
+            b"refused a.hol at 0: NotBuilt\n",
         ),
     ];
     for (bytes, line) in rows {
@@ -193,28 +248,24 @@ fn refused_after_a_line(rt: HostRuntime) -> Result<(), Fail> {
 #[test]
 fn refused_bytes(rt: HostRuntime) -> Result<(), Fail> {
     let alloc = rt.alloc();
-    let rows: [(&[u8], &[u8]); 9] = [
+    let rows: [(&[u8], &[u8]); 8] = [
         (b"x", b"refused a.hol at 0: Syntax\n"),
         (
             b"definition lemma = {(b 0)}",
-            b"refused a.hol at 16: Syntax\n",
+            b"refused a.hol at 11: Syntax\n",
         ),
-        (b"definitions", b"refused a.hol at 10: Syntax\n"),
-        (b"definition c = {(b 00)}", b"refused a.hol at 20: Syntax\n"),
-        (
-            b"definition c = {(b 4294967296)}",
-            b"refused a.hol at 28: Syntax\n",
-        ),
+        (b"definitions", b"refused a.hol at 0: Syntax\n"),
+        (b"definition c = {(b 00)}", b"refused a.hol at 15: Syntax\n"),
         (
             b"definition c = {(c T (bool)}",
-            b"refused a.hol at 27: Syntax\n",
+            b"refused a.hol at 15: Syntax\n",
         ),
+        (b"definition c => {", b"refused a.hol at 16: OpenQuote\n"),
+        (b"definition c = \"$\"", b"refused a.hol at 16: BadByte\n"),
         (
-            b"definition c = {(v x'a)}",
-            b"refused a.hol at 22: Syntax\n",
+            b"definition c = \"256\"",
+            b"refused a.hol at 16: NumberTooLarge\n",
         ),
-        (b"definition c => {", b"refused a.hol at 14: Syntax\n"),
-        (b"# no comment", b"refused a.hol at 0: Syntax\n"),
     ];
     for (bytes, line) in rows {
         try_file(&rt, alloc, bytes, 1, line)?;
@@ -226,7 +277,14 @@ fn refused_bytes(rt: HostRuntime) -> Result<(), Fail> {
 fn cut_files(rt: HostRuntime) -> Result<(), Fail> {
     let alloc = rt.alloc();
     for cut in 1..TT.len() {
-        let line = format!(in alloc; "refused a.hol at {cut}: Syntax\n")?;
+        let (at, kind) = if cut < 10 {
+            (0, "Syntax")
+        } else if cut < 17 {
+            (cut, "Syntax")
+        } else {
+            (16, "OpenQuote")
+        };
+        let line = format!(in alloc; "refused a.hol at {at}: {kind}\n")?;
         try_file(&rt, alloc, &TT[..cut], 1, line.as_bytes())?;
     }
     Ok(())
@@ -244,8 +302,11 @@ fn repeated(alloc: Global, piece: &[u8], count: usize) -> Result<Vec<u8>, AllocE
 fn limits(rt: HostRuntime) -> Result<(), Fail> {
     let alloc = rt.alloc();
     let mut deep = repeated(alloc, b"definition c = {", 1)?;
-    deep.extend_from_slice(&repeated(alloc, b"(a ", 201)?)?;
-    try_file(&rt, alloc, &deep, 1, b"refused a.hol at 616: TooDeep\n")?;
+    deep.extend_from_slice(&repeated(alloc, b"(l (bool) ", 201)?)?;
+    deep.extend_from_slice(b"(b 0)")?;
+    deep.extend_from_slice(&repeated(alloc, b")", 201)?)?;
+    deep.extend_from_slice(b"}")?;
+    try_file(&rt, alloc, &deep, 1, b"refused a.hol at 2009: TooDeep\n")?;
     let mut name = repeated(alloc, b"definition ", 1)?;
     name.extend_from_slice(&repeated(alloc, b"n", 65)?)?;
     try_file(&rt, alloc, &name, 1, b"refused a.hol at 11: NameTooLong\n")?;
@@ -314,7 +375,7 @@ fn malformed_words(rt: HostRuntime) -> Result<(), Fail> {
         &["run", ""],
         &["run", "--full", "--full"],
         &["run", "--full", ""],
-        &["run", "--full", "a.hol", "b.hol"],
+        &["run", "a.hol", "--full"],
         &["gen", "--full", "a.hol"],
     ];
     for words in rows {
@@ -331,6 +392,43 @@ fn malformed_words(rt: HostRuntime) -> Result<(), Fail> {
                 written: USAGE,
             },
         )?;
+    }
+    Ok(())
+}
+
+// The later file knows what the earlier one defined; after a refusal no file is opened.
+#[test]
+fn several_files(rt: HostRuntime) -> Result<(), Fail> {
+    let alloc = rt.alloc();
+    let rows: [(&[&str], u8, &[u8]); 3] = [
+        (
+            &["run", "a.hol", "b.hol"],
+            0,
+            b"definition t_def: |- t = T\ndefinition u_def: |- u = t\n",
+        ),
+        (
+            &["run", "b.hol", "a.hol", "missing.hol"],
+            1,
+            b"refused b.hol at 0: NotClosed t\n",
+        ),
+        (
+            &["run", "a.hol", "missing.hol"],
+            3,
+            b"definition t_def: |- t = T\n",
+        ),
+    ];
+    for (texts, status, written) in rows {
+        let words = words_of(alloc, texts)?;
+        let mut files = MemFiles::new(alloc);
+        files.add("a.hol", b"definition t = \"T\"")?;
+        files.add("b.hol", b"definition u = \"t\"")?;
+        let mut sink = MemSink::with_room(alloc, 1000)?;
+        let mut theory = Theory::new(alloc)?;
+        assert_eq!(rt;
+            run(alloc, &words, &mut files, &mut sink, &mut theory),
+            status
+        );
+        assert_eq!(rt; sink.written(), written);
     }
     Ok(())
 }
