@@ -40,7 +40,7 @@ fn explain(rt: &HostRuntime, status: u8, file: Option<&str>) {
         return;
     };
     let _ = match file {
-        Some(file) => eprintln!(rt; "funpack: {file:?}: {meaning}"),
+        Some(file) => eprintln!(rt; "funpack: at {file:?}: {meaning}"),
         None => eprintln!(rt; "funpack: {meaning}"),
     };
 }

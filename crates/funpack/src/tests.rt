@@ -87,22 +87,59 @@ fn accepted_files(rt: HostRuntime) -> Result<(), Fail> {
     Ok(())
 }
 
+// A lemma whose third line is bad, after one that is proved.
+const BAD_LINE: &[u8] = b"lemma t_ok: \"(x::'a) = x\" proof refl \"x\"; end
+lemma bad: \"T\" proof refl \"T\"; assume \"F\"; eq_mp 1 2; end
+";
+
+// A type of one value.
+const YES: &[u8] =
+    b"lemma ex_T: \"(%(x::bool). x) T\" proof truth; beta \"(%(x::bool). x) T\"; sym 2; eq_mp 3 1; end
+typedef yes abs to_yes rep of_yes by ex_T
+";
+
+const YES_LINES: &[u8] =
+    b"theorem ex_T: |- (%a. a) T\ntypedef yes_abs_rep: |- to_yes (of_yes a) = a\ntypedef yes_rep_abs: |- (%a. a) r = (of_yes (to_yes r) = r)\n";
+
 // The short form, where the words don't ask for the full one.
 #[test]
 fn short_lines(rt: HostRuntime) -> Result<(), Fail> {
-    try_row(
-        &rt,
-        rt.alloc(),
-        Row {
-            words: &["run", "a.hol"],
-            bytes: TT,
-            file_call: 0,
-            sink_call: 0,
-            room: 1000,
-            status: 0,
-            written: b"definition tt_def: |- tt = (%a. a)\n",
-        },
-    )?;
+    let alloc = rt.alloc();
+    let rows: [(&[u8], u8, &[u8]); 6] = [
+        (TT, 0, b"definition tt_def: |- tt = (%a. a)\n"),
+        (b"", 0, b""),
+        (YES, 0, YES_LINES),
+        (
+            BAD_LINE,
+            1,
+            b"theorem t_ok: |- x = x\nrefused a.hol at 46: BadLine 3 Differ\n",
+        ),
+        (
+            b"definition one = \"%x. y\"",
+            1,
+            b"refused a.hol at 0: NotClosed y\n",
+        ),
+        (
+            b"theory Foo imports Main begin",
+            1,
+            b"refused a.hol at 0: Syntax\n",
+        ),
+    ];
+    for (bytes, status, written) in rows {
+        try_row(
+            &rt,
+            alloc,
+            Row {
+                words: &["run", "a.hol"],
+                bytes,
+                file_call: 0,
+                sink_call: 0,
+                room: 1000,
+                status,
+                written,
+            },
+        )?;
+    }
     Ok(())
 }
 
@@ -317,6 +354,23 @@ fn limits(rt: HostRuntime) -> Result<(), Fail> {
     Ok(())
 }
 
+// The limit of bytes is one for all files.
+#[test]
+fn limit_of_files(rt: HostRuntime) -> Result<(), Fail> {
+    let alloc = rt.alloc();
+    let words = words_of(alloc, &["run", "a.hol", "b.hol"])?;
+    let most = repeated(alloc, b" ", 4194300)?;
+    let mut files = MemFiles::new(alloc);
+    files.add("a.hol", &most)?;
+    files.add("b.hol", b"# abc")?;
+    let mut sink = MemSink::with_room(alloc, 1000)?;
+    let mut theory = Theory::new(alloc)?;
+    assert_eq!(rt; run(alloc, &words, &mut files, &mut sink, &mut theory), 1);
+    let line: &[u8] = b"refused b.hol at 4: TooLong\n";
+    assert_eq!(rt; sink.written(), line);
+    Ok(())
+}
+
 #[test]
 fn faults(rt: HostRuntime) -> Result<(), Fail> {
     let alloc = rt.alloc();
@@ -400,7 +454,7 @@ fn malformed_words(rt: HostRuntime) -> Result<(), Fail> {
 #[test]
 fn several_files(rt: HostRuntime) -> Result<(), Fail> {
     let alloc = rt.alloc();
-    let rows: [(&[&str], u8, &[u8]); 3] = [
+    let rows: [(&[&str], u8, &[u8]); 4] = [
         (
             &["run", "a.hol", "b.hol"],
             0,
@@ -410,6 +464,11 @@ fn several_files(rt: HostRuntime) -> Result<(), Fail> {
             &["run", "b.hol", "a.hol", "missing.hol"],
             1,
             b"refused b.hol at 0: NotClosed t\n",
+        ),
+        (
+            &["run", "c.hol", "missing.hol"],
+            1,
+            b"refused c.hol at 0: NotBuilt\n",
         ),
         (
             &["run", "a.hol", "missing.hol"],
@@ -422,6 +481,7 @@ fn several_files(rt: HostRuntime) -> Result<(), Fail> {
         let mut files = MemFiles::new(alloc);
         files.add("a.hol", b"definition t = \"T\"")?;
         files.add("b.hol", b"definition u = \"t\"")?;
+        files.add("c.hol", b"simp T_def")?;
         let mut sink = MemSink::with_room(alloc, 1000)?;
         let mut theory = Theory::new(alloc)?;
         assert_eq!(rt;
