@@ -1,5 +1,5 @@
 -- What the steps of a command give together.
-use Rattle.std.proofs.Common.{◌≡◌, ◌∙◌, ℕ, List, [], ◌∷◌, ◌++◌, Option, Some, None, Result, Ok, Err, IfOk, refl, sym, ap}
+use Rattle.std.proofs.Common.{◌≡◌, ◌∙◌, ℕ, List, [], ◌∷◌, ◌++◌, Some, None, Result, Ok, Err, IfOk, refl, ap}
 use Rattle.fp_command.specs.declared.fault.CommandFault.{CommandFault}
 use Rattle.fp_term.specs.Terms.{Tm}
 use Rattle.fp_term.specs.Typing.{type_under}
@@ -10,9 +10,8 @@ use Rattle.fp_kernel.specs.Theorems.{Theorem, IsTheorem, plain}
 use Rattle.fp_kernel.specs.Conservative.{IsConservative}
 use Rattle.fp_commands.specs.declared.command.Line.{Line}
 use Rattle.fp_report.specs.declared.item.Item.{Item}
-use Rattle.fp_report.specs.declared.item.Item.TheVariants as item
-use Rattle.fp_theory.specs.State.{State, found_theorem, with_theorem, over, IsNoted}
-use Rattle.fp_theory.specs.Defining.{def_name, abs_rep_name, rep_abs_name, named_taken, taken_by_definition, taken_by_type, DefinesIn, DefinesTypeIn}
+use Rattle.fp_theory.specs.State.{State, found_theorem, with_theorem, IsNoted}
+use Rattle.fp_theory.specs.Defining.{def_name, abs_rep_name, rep_abs_name, named_taken, taken_by_definition, taken_by_type}
 use Rattle.fp_command.specs.Outcome.{stated, Elaborates, AcceptsDefinition, AcceptsType, AcceptsLemma, IsProved, AreProved}
 use Rattle.fp_command.specs.Answers.{ShowsDefinition, ShowsType, ShowsLemma}
 use Rattle.fp_command.proofs.Naming.{found_last, found_still, free_still, names_apart}

@@ -1,5 +1,5 @@
 -- Terms of the type of truth values.
-use Rattle.std.proofs.Common.{◌≡◌, ◌∙◌, ℕ, Bool, true, List, [], Some, None, sym, ap}
+use Rattle.std.proofs.Common.{◌≡◌, ◌∙◌, ℕ, Bool, true, List, [], Some, sym, ap}
 use Rattle.fp_term.specs.Types.{Typ, type_eq}
 use Rattle.fp_term.specs.Terms.{Tm}
 use Rattle.fp_term.specs.Typing.{type_under, ill_typed}

@@ -8,3 +8,6 @@ pub mod Telling
 pub mod Formulas
 pub mod Accepting
 pub mod Refusing
+pub mod Ruling
+pub mod Constructing
+pub mod Measuring

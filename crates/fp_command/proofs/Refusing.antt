@@ -1,5 +1,5 @@
 -- How a command's refusal comes from that of a step.
-use Rattle.std.proofs.Common.{◌≡◌, ℕ, List, [], ◌∷◌, Option, Some, None, Result, Ok, Err, IfOk, IfErr, refl}
+use Rattle.std.proofs.Common.{◌≡◌, ℕ, List, [], Some, None, Result, Ok, Err, IfOk, IfErr, refl}
 use Rattle.fp_term.specs.Terms.{Tm}
 use Rattle.fp_term.specs.Typing.{type_under}
 use Rattle.fp_conclude.specs.Logic.{truth_type}

@@ -1,9 +1,9 @@
 -- The signature of a theory is one over which terms are elaborated.
-use Rattle.std.proofs.Common.{◌≡◌, ℕ, Bool, true, false, if◌then◌else◌, List, [], ◌∷◌, ◌++◌}
+use Rattle.std.proofs.Common.{ℕ, Bool, true, false, if◌then◌else◌, List, [], ◌∷◌, ◌++◌}
 use Rattle.fp_term.specs.Types.{Typ}
 use Rattle.fp_term.specs.Terms.{Tm, bound, free, constant, app, abs}
 use Rattle.fp_term.specs.Signatures.{IsType, IsOver}
-use Rattle.fp_term.specs.Variables.{is_variable_among, with_variable, with_variables, variables_of}
+use Rattle.fp_term.specs.Variables.{is_variable_among, with_variables, variables_of}
 use Rattle.fp_term.specs.declared.signature.Signature.{Signature}
 use Rattle.fp_infer.specs.Elaborated.{IsSound, AreTypesIn}
 use Rattle.fp_theory.specs.Sound.{IsSoundSignature}

@@ -1,5 +1,5 @@
 -- What is told of a refusal, when more is known.
-use Rattle.std.proofs.Common.{◌≡◌, ℕ, Result, Ok, Err, IfErr}
+use Rattle.std.proofs.Common.{◌≡◌, ℕ, refl}
 use Rattle.fp_report.specs.declared.reason.Reason.{Reason}
 use Rattle.fp_report.specs.Reasons.{IsShownReason}
 use Rattle.fp_theory.specs.State.{State}
@@ -29,3 +29,8 @@ leaves_one s t Q NoMemory at reason is shown same q = absurd is
 pub shows_one : (Q : ℕ → Reason → Type 0) (fault : CommandFault) (at : ℕ) (reason : Reason) → IsRefusal at reason fault → IsShownReason reason → Q at reason → Shows Q fault
 shows_one Q (Refused r) at reason is shown q = (rw (is.0, is.1) q, rw is.1 shown)
 shows_one Q NoMemory at reason is shown q = absurd is
+
+-- nothing is done
+pub leaves_same : {S : Type 0} (s : S) (P : ℕ → Reason → Type 0) (fault : CommandFault) → Shows P fault → Leaves s s P fault
+leaves_same s P (Refused r) sh = (sh.0, sh.1, refl)
+leaves_same s P NoMemory sh = tt

@@ -3,7 +3,8 @@ use Rattle.std.specs.Prelude.{◌≡◌, ℕ, List, [], ◌∷◌, Some, None}
 use Rattle.fp_term.specs.Typing.{type_under}
 use Rattle.fp_conclude.specs.Logic.{truth_type}
 use Rattle.fp_report.specs.declared.reason.Kind.TheVariants as kind
-use Rattle.fp_report.specs.declared.reason.Reason.TheVariants.{Plain}
+use Rattle.fp_report.specs.declared.reason.Naming.TheVariants as naming
+use Rattle.fp_report.specs.declared.reason.Reason.TheVariants.{Plain, Of}
 use Rattle.fp_term.specs.Terms.{Tm}
 use Rattle.fp_kernel.specs.Theorems.{Theorem, IsTheorem}
 use Rattle.fp_kernel.specs.Conservative.{IsConservative}
@@ -13,6 +14,8 @@ use Rattle.fp_report.specs.declared.reason.Reason.{Reason}
 use Rattle.fp_report.specs.Reasons.{IsShownReason, IsShownEnd}
 use Rattle.fp_lines.specs.declared.fault.ProofFault.{ProofFault}
 use Rattle.fp_lines.specs.declared.fault.ProofFault.TheVariants as unproved
+use Rattle.fp_theory.specs.declared.fault.RuleShapeFault.{RuleShapeFault}
+use Rattle.fp_theory.specs.declared.fault.RuleShapeFault.TheVariants as shaping
 use Rattle.fp_theory.specs.State.{State, with_theorem, found_theorem}
 use Rattle.fp_theory.specs.Defining.{def_name, abs_rep_name, rep_abs_name, DefinesIn, DefinesTypeIn}
 use Rattle.fp_command.specs.Outcome.{stated}
@@ -29,7 +32,7 @@ abbrev pub Shows : (ℕ → Reason → Type 0) → CommandFault → Type 0
 Shows P fault = Tells (λ at reason. P at reason × IsShownReason reason) fault
 
 -- a refusal of which that holds, which can be printed, and after which the state is as before
-abbrev pub Leaves : State → State → (ℕ → Reason → Type 0) → CommandFault → Type 0
+abbrev pub Leaves : {S : Type 0} → S → S → (ℕ → Reason → Type 0) → CommandFault → Type 0
 Leaves s t P fault = Tells (λ at reason. P at reason × IsShownReason reason × (t ≡ s)) fault
 
 -- exactly that refusal
@@ -40,6 +43,12 @@ IsRefusal place why NoMemory = ⊥
 -- at the command's first byte
 abbrev pub At : ℕ → (Reason → Type 0) → ℕ → Reason → Type 0
 At begins P at reason = (at ≡ begins) × P reason
+
+-- a fault of a rule
+abbrev pub ExplainsRule : RuleShapeFault → Reason → Type 0
+ExplainsRule (shaping.NoSuchTheorem name) reason = reason ≡ Of naming.NoSuchTheorem name
+ExplainsRule shaping.NotRuleShape reason = reason ≡ Plain kind.NotRuleShape
+ExplainsRule shaping.NoMemory reason = ⊥
 
 -- the constant is defined by the term, and its theorem shown
 pub record ShowsDefinition (s t : State) (name : List ℕ) (body : Tm) (items : List Item) : Type 0 where

@@ -1,7 +1,10 @@
 -- What a command makes of a state and shows, or why it is refused.
-use Rattle.std.specs.Prelude.{◌≡◌, ℕ, List, [], ◌∷◌, Option, Some, None, Result, Ok, Err}
-use Rattle.fp_term.specs.Terms.{Tm}
-use Rattle.fp_term.specs.Typing.{type_under}
+use Rattle.std.specs.Prelude.{◌≡◌, ℕ, Bool, true, false, not, ◌&&◌, ◌||◌, List, [], ◌∷◌, Option, Some, None, is_some, Result, Ok, Err}
+use Rattle.std.specs.Str.{bytes_eq}
+use Rattle.fp_term.specs.Types.{Typ}
+use Rattle.fp_term.specs.Terms.{Tm, is_open}
+use Rattle.fp_term.specs.Typing.{type_under, function_type}
+use Rattle.fp_term.specs.Variables.{hidden_of}
 use Rattle.fp_term.specs.declared.statement.Statement.{Statement}
 use Rattle.fp_conclude.specs.Logic.{truth_type}
 use Rattle.fp_kernel.specs.Start.{signature_of}
@@ -10,7 +13,12 @@ use Rattle.fp_kernel.specs.Conservative.{IsConservative}
 use Rattle.fp_kernel.specs.Theorems.{Theorem, IsTheorem, plain}
 use Rattle.fp_kernel.specs.declared.fault.DefFault.{DefFault}
 use Rattle.fp_kernel.specs.declared.fault.DefFault.TheVariants as defining
-use Rattle.fp_raw.specs.Raws.{RawTm}
+use Rattle.fp_raw.specs.Raws.{RawTm, RawTyp}
+use Rattle.fp_constrain.specs.Declarations.{declarations}
+use Rattle.fp_constrain.specs.Subterms.{plain as plain_type}
+use Rattle.fp_infer.specs.Names.{Found, wrong_in, wrong_in_type, earliest}
+use Rattle.fp_infer.specs.declared.names.Search.{Search}
+use Rattle.fp_infer.specs.declared.names.Search.TheVariants.{Unknown, Arity}
 use Rattle.fp_infer.specs.Elaborated.{Answers}
 use Rattle.fp_infer.specs.declared.fault.InferFault.{InferFault}
 use Rattle.fp_infer.specs.declared.fault.InferFault.TheVariants as typing
@@ -30,7 +38,17 @@ use Rattle.fp_report.specs.declared.reason.Cause.{Cause}
 use Rattle.fp_report.specs.declared.reason.Reason.{Reason}
 use Rattle.fp_report.specs.declared.reason.Reason.TheVariants.{Plain, Of, BadRuleName, BadLine, WrongEnd}
 use Rattle.fp_report.specs.Reasons.{cause_text}
-use Rattle.fp_theory.specs.State.{State, found_theorem, with_theorem, IsNoted}
+use Rattle.fp_group.specs.declared.constructors.ConType.{ConType}
+use Rattle.fp_constructors.specs.Answers.{unknown_of, other_of, AreConstructors}
+use Rattle.fp_constructors.specs.Needed.{needed}
+use Rattle.fp_data.specs.Lacking.{first_lacking}
+use Rattle.fp_measure.specs.Sources.{natural, IsMeasure}
+use Rattle.fp_measure.specs.declared.source.DeclKind.{DeclKind}
+use Rattle.fp_measure.specs.declared.source.DeclKind.TheVariants as declared
+use Rattle.fp_measure.specs.declared.source.Decl.{Decl}
+use Rattle.fp_sources.specs.Sources.{Source, told_each}
+use Rattle.fp_theory.specs.State.{State, found_theorem, with_theorem, with_simp, with_cong, with_type, IsNoted, IsRewriteRule, IsCongRule}
+use Rattle.fp_theory.specs.Declaring.{IsNoRewriteRule, IsNoCongRule}
 use Rattle.fp_theory.specs.Defining.{def_name, abs_rep_name, rep_abs_name, named_taken, taken_by_definition, taken_by_type, defining_in, DefinesIn, defining_type_in, DefinesTypeIn}
 
 -- a formula by itself
@@ -142,6 +160,120 @@ pub data RefusesLemma (s : State) (begins : ℕ) (name : List ℕ) (raw : RawTm)
   unproved : (reason : Reason) (statement : Tm) → named_taken s name ≡ None → Elaborates s raw (Ok statement) → type_under [] statement ≡ Some truth_type →
       FailsProof s statement lines reason → RefusesLemma s begins name raw lines begins reason
 
+-- Rules.
+
+pub record AcceptsSimp (s : State) (name : List ℕ) (items : List Item) (t : State) : Type 0 where
+  pub rule : IsRewriteRule s.named name
+  pub declared : t ≡ with_simp name s
+  pub shown : items ≡ item.Simp name ∷ []
+
+pub data RefusesSimp (s : State) (name : List ℕ) : Reason → Type 0 where
+  no_theorem : found_theorem name s.named ≡ None → RefusesSimp s name (Of naming.NoSuchTheorem name)
+  no_rule : IsNoRewriteRule s.named name → RefusesSimp s name (Plain kind.NotRuleShape)
+
+pub record AcceptsCong (s : State) (name : List ℕ) (items : List Item) (t : State) : Type 0 where
+  pub rule : IsCongRule s.named name
+  pub declared : t ≡ with_cong name s
+  pub shown : items ≡ item.Cong name ∷ []
+
+pub data RefusesCong (s : State) (name : List ℕ) : Reason → Type 0 where
+  no_theorem : found_theorem name s.named ≡ None → RefusesCong s name (Of naming.NoSuchTheorem name)
+  no_rule : IsNoCongRule s.named name → RefusesCong s name (Plain kind.NotRuleShape)
+
+-- Constructors.
+
+-- are the constructors of the type of that name declared?
+abbrev pub is_declared : List ConType → List ℕ → Bool
+is_declared [] name = false
+is_declared (type ∷ types) name = bytes_eq type.name name || is_declared types name
+
+-- the type with its constructors
+abbrev pub con_type : List ℕ → List (List ℕ) → ConType
+con_type name cons = record { name = name; cons = cons }
+
+pub record AcceptsConstructors (s : State) (type : ConType) (items : List Item) (t : State) : Type 0 where
+  pub free : is_declared s.types type.name ≡ false
+  pub fit : AreConstructors (signature_of s.defs) type
+  pub known : first_lacking s.named (needed (signature_of s.defs) type) ≡ None
+  pub declared : t ≡ with_type type s
+  pub shown : items ≡ item.Constructors type.name type.cons ∷ []
+
+pub data RefusesConstructors (s : State) (type : ConType) : Reason → Type 0 where
+  name_taken : is_declared s.types type.name ≡ true → RefusesConstructors s type (Of naming.NameTaken type.name)
+  unknown_name : (n : List ℕ) → is_declared s.types type.name ≡ false → unknown_of (signature_of s.defs) type ≡ Some n → RefusesConstructors s type (Of naming.UnknownName n)
+  no_constructor : (n : List ℕ) → is_declared s.types type.name ≡ false → unknown_of (signature_of s.defs) type ≡ None → other_of (signature_of s.defs) type ≡ Some n →
+      RefusesConstructors s type (Of naming.NotConstructor n)
+  lacks_lemma : (n : List ℕ) → is_declared s.types type.name ≡ false → AreConstructors (signature_of s.defs) type →
+      first_lacking s.named (needed (signature_of s.defs) type) ≡ Some n → RefusesConstructors s type (Of naming.LacksLemma n)
+
+-- Measures.
+
+-- the state of a theory with what the sources of measures have
+pub record Session : Type 0 where
+  pub theory : State
+  pub sources : List Source
+
+abbrev pub session : State → List Source → Session
+session theory sources = record { theory = theory; sources = sources }
+
+-- the earliest wrong name of a written type and of a written term
+abbrev pub wrong_type_name : Search → State → RawTyp → Option Found
+wrong_type_name k s written = earliest None (wrong_in_type k (signature_of s.defs) written)
+
+abbrev pub wrong_name : Search → State → RawTm → Option Found
+wrong_name k s raw = earliest None (wrong_in k (signature_of s.defs) (declarations (signature_of s.defs) []) raw)
+
+-- what the written term stands for as a function from the type into the natural numbers
+abbrev pub Measures : State → Typ → RawTm → Result Tm InferFault → Type 0
+Measures s type raw result = Answers (signature_of s.defs) [] [] (Some (function_type type natural)) raw result
+
+-- a term without variables, and without type variables that the type lacks
+abbrev pub is_fit : Typ → Tm → Bool
+is_fit type t = not (is_open t) && not (is_some (hidden_of t type))
+
+-- the names are those of the signature, as far as they come before what types say of the term
+pub record AreNamed (s : State) (written : RawTyp) (raw : RawTm) : Type 0 where
+  pub type_known : wrong_type_name Unknown s written ≡ None
+  pub term_known : wrong_name Unknown s raw ≡ None
+  pub type_right : wrong_type_name Arity s written ≡ None
+
+-- the written term stands for a measure of the written type
+pub record Declares (kind : DeclKind) (s : State) (written : RawTyp) (raw : RawTm) (decl : Decl) : Type 0 where
+  pub names : AreNamed s written raw
+  pub typed : Measures s (plain_type written) raw (Ok decl.term)
+  pub fit : is_fit (plain_type written) decl.term ≡ true
+  pub measure : IsMeasure decl.ty decl.term
+  pub kind_is : decl.kind ≡ kind
+  pub type_is : decl.ty ≡ plain_type written
+
+abbrev pub measure_item : DeclKind → Typ → Tm → Item
+measure_item declared.Size type t = item.Size type t
+measure_item declared.Measure type t = item.Measure type t
+
+pub record AcceptsMeasure (kind : DeclKind) (s : Session) (written : RawTyp) (raw : RawTm) (items : List Item) (t : Session) : Type 0 where
+  pub decl : Decl
+  pub declares : Declares kind s.theory written raw decl
+  pub theory : t.theory ≡ s.theory
+  pub sources : t.sources ≡ told_each decl.kind decl.ty decl.term s.sources
+  pub shown : items ≡ measure_item decl.kind decl.ty decl.term ∷ []
+
+-- the term's names or types are at fault
+abbrev pub FailsMeasure : State → Typ → RawTm → ℕ → Reason → Type 0
+FailsMeasure s type raw at reason = (fault : InferFault) × Measures s type raw (Err fault) × ExplainsTerm fault at reason
+
+-- a name isn't one of the signature, or a type constructor has another number of arguments
+pub data Misnames (s : State) (written : RawTyp) (raw : RawTm) : ℕ → Reason → Type 0 where
+  unknown_type_name : (at : ℕ) (n : List ℕ) → wrong_type_name Unknown s written ≡ Some (at, n) → Misnames s written raw at (Of naming.UnknownName n)
+  unknown_name : (at : ℕ) (n : List ℕ) → wrong_type_name Unknown s written ≡ None → wrong_name Unknown s raw ≡ Some (at, n) → Misnames s written raw at (Of naming.UnknownName n)
+  bad_arity : (at : ℕ) (n : List ℕ) → wrong_type_name Unknown s written ≡ None → wrong_name Unknown s raw ≡ None → wrong_type_name Arity s written ≡ Some (at, n) →
+      Misnames s written raw at (Of naming.BadArity n)
+
+pub data RefusesMeasure (s : State) (begins : ℕ) (written : RawTyp) (raw : RawTm) : ℕ → Reason → Type 0 where
+  misnamed : (at : ℕ) (reason : Reason) → Misnames s written raw at reason → RefusesMeasure s begins written raw at reason
+  untyped : (at : ℕ) (reason : Reason) → AreNamed s written raw → FailsMeasure s (plain_type written) raw at reason → RefusesMeasure s begins written raw at reason
+  unfit : (t : Tm) → AreNamed s written raw → Measures s (plain_type written) raw (Ok t) → is_fit (plain_type written) t ≡ false →
+      RefusesMeasure s begins written raw begins (Plain kind.NotMeasure)
+
 -- Commands.
 
 -- a statement that is printed is a named theorem, derivable from definitions that are conservative, without hypotheses and promises
@@ -160,27 +292,41 @@ IsProvedItem t (item.Theorem name s) = IsProved t name s
 IsProvedItem t (item.Simp name) = Unit {0}
 IsProvedItem t (item.Cong name) = Unit {0}
 IsProvedItem t (item.Constructors name names) = Unit {0}
+IsProvedItem t (item.Size type m) = Unit {0}
+IsProvedItem t (item.Measure type m) = Unit {0}
 
 abbrev pub AreProved : State → List Item → Type 0
 AreProved t [] = Unit {0}
 AreProved t (i ∷ items) = IsProvedItem t i × AreProved t items
 
-abbrev pub AcceptsBody : State → Body → List Item → State → Type 0
-AcceptsBody s (body.Definition name raw) items t = AcceptsDefinition s name raw items t
-AcceptsBody s (body.Typedef name abstract represent fact) items t = AcceptsType s name abstract represent fact items t
-AcceptsBody s (body.Lemma name raw lines) items t = AcceptsLemma s name raw lines items t
-AcceptsBody s _ items t = ⊥
+abbrev pub AcceptsBody : Session → Body → List Item → Session → Type 0
+AcceptsBody s (body.Definition name raw) items t = AcceptsDefinition s.theory name raw items t.theory × (t.sources ≡ s.sources)
+AcceptsBody s (body.Typedef name abstract represent fact) items t = AcceptsType s.theory name abstract represent fact items t.theory × (t.sources ≡ s.sources)
+AcceptsBody s (body.Lemma name raw lines) items t = AcceptsLemma s.theory name raw lines items t.theory × (t.sources ≡ s.sources)
+AcceptsBody s (body.Simp name) items t = AcceptsSimp s.theory name items t.theory × (t.sources ≡ s.sources)
+AcceptsBody s (body.Cong name) items t = AcceptsCong s.theory name items t.theory × (t.sources ≡ s.sources)
+AcceptsBody s (body.Constructors name cons) items t = AcceptsConstructors s.theory (con_type name cons) items t.theory × (t.sources ≡ s.sources)
+AcceptsBody s (body.Size written raw) items t = AcceptsMeasure declared.Size s written raw items t
+AcceptsBody s (body.Measure written raw) items t = AcceptsMeasure declared.Measure s written raw items t
+AcceptsBody s (body.Fun heads clauses) items t = ⊥
+AcceptsBody s (body.Function heads clauses) items t = ⊥
 
 -- the command is accepted, shows these items, and makes the one state the other
-pub record Accepts (s : State) (c : Command) (items : List Item) (t : State) : Type 0 where
+pub record Accepts (s : Session) (c : Command) (items : List Item) (t : Session) : Type 0 where
   pub accepts : AcceptsBody s c.body items t
-  pub proved : AreProved t items
+  pub proved : AreProved t.theory items
 
 abbrev pub RefusesBody : State → ℕ → Body → ℕ → Reason → Type 0
 RefusesBody s begins (body.Definition name raw) at reason = RefusesDefinition s begins name raw at reason
 RefusesBody s begins (body.Typedef name abstract represent fact) at reason = (at ≡ begins) × RefusesType s name abstract represent fact reason
 RefusesBody s begins (body.Lemma name raw lines) at reason = RefusesLemma s begins name raw lines at reason
-RefusesBody s begins _ at reason = (at ≡ begins) × (reason ≡ Plain kind.NotBuilt)
+RefusesBody s begins (body.Simp name) at reason = (at ≡ begins) × RefusesSimp s name reason
+RefusesBody s begins (body.Cong name) at reason = (at ≡ begins) × RefusesCong s name reason
+RefusesBody s begins (body.Constructors name cons) at reason = (at ≡ begins) × RefusesConstructors s (con_type name cons) reason
+RefusesBody s begins (body.Size written raw) at reason = RefusesMeasure s begins written raw at reason
+RefusesBody s begins (body.Measure written raw) at reason = RefusesMeasure s begins written raw at reason
+RefusesBody s begins (body.Fun heads clauses) at reason = (at ≡ begins) × (reason ≡ Plain kind.NotBuilt)
+RefusesBody s begins (body.Function heads clauses) at reason = (at ≡ begins) × (reason ≡ Plain kind.NotBuilt)
 
 -- the command is refused, at the place
 pub record Refuses (s : State) (c : Command) (at : ℕ) (reason : Reason) : Type 0 where

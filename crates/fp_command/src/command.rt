@@ -1,31 +1,38 @@
 //! Commands carried out.
-ghost use Rattle.std.specs.Prelude.{IfOk, IfErr};
+ghost use Rattle.std.specs.Prelude.{map, IfOk, IfErr};
+ghost use Rattle.fp_sources.specs.Sources.{source};
 ghost use Rattle.fp_report.specs.Items.{AreShown};
-ghost use Rattle.fp_command.specs.Outcome.{Accepts, Refuses};
+ghost use Rattle.fp_command.specs.Outcome.{session, Accepts, Refuses};
 ghost use Rattle.fp_command.specs.Answers.{Leaves};
 
+use crate::constructors::constructors;
 use crate::definition::definition;
 use crate::fault::{CommandFault, refused};
 use crate::lemma::lemma;
+use crate::measure::measure;
+use crate::rules::{cong, simp};
 use crate::typedef::{TypeNames, typedef};
+use fp_measure::{DeclKind, MeasureSource};
 use fp_report::{Item, Kind};
 use fp_syntax::{Body, Command};
 use fp_term::Items;
 use fp_theory::Theory;
 use std::alloc::Global;
 
-/// Carries a command out on the theory: what it shows, or why it is refused. After a refusal the theory is as before.
+/// Carries a command out on the theory and the sources of measures: what it shows, or why it is refused. After a refusal both are as before.
 pub(crate) fn carry_out(
     alloc: Global,
     command: &Command,
     theory: &mut Theory,
+    sources: &mut [Box<dyn MeasureSource + Send + Sync>],
 ) -> Result<Items<Item>, CommandFault>
-    ensures accepted { IfOk result (λ items. Accepts theory.old command.now items theory.new) }
+    ensures accepted { IfOk result (λ items. Accepts (session theory.old (map (λ s. source (habits s) (entries s)) sources.old)) command.now items (session theory.new (map (λ s. source (habits s) (entries s)) sources.new))) }
     ensures shown { IfOk result AreShown }
-    ensures refused { IfErr result (Leaves theory.old theory.new (Refuses theory.old command.now)) }
+    ensures refused { IfErr result (Leaves (session theory.old (map (λ s. source (habits s) (entries s)) sources.old)) (session theory.new (map (λ s. source (habits s) (entries s)) sources.new)) (Refuses theory.old command.now)) }
 {
+    let at = command.at;
     match &command.body {
-        Body::Definition { name, term } => definition(alloc, command.at, name, term, theory),
+        Body::Definition { name, term } => definition(alloc, at, name, term, theory),
         Body::Typedef {
             name,
             abs,
@@ -33,7 +40,7 @@ pub(crate) fn carry_out(
             fact,
         } => typedef(
             alloc,
-            command.at,
+            at,
             TypeNames {
                 name,
                 abs,
@@ -46,13 +53,20 @@ pub(crate) fn carry_out(
             name,
             statement,
             lines,
-        } => lemma(alloc, command.at, name, statement, lines.as_slice(), theory),
-        Body::Simp(_)
-        | Body::Cong(_)
-        | Body::Constructors { .. }
-        | Body::Size { .. }
-        | Body::Measure { .. }
-        | Body::Fun { .. }
-        | Body::Function { .. } => Err(refused(command.at, Kind::NotBuilt)),
+        } => lemma(alloc, at, name, statement, lines.as_slice(), theory),
+        Body::Simp(name) => simp(alloc, at, name, theory),
+        Body::Cong(name) => cong(alloc, at, name, theory),
+        Body::Constructors { ty, cons } => constructors(alloc, at, ty, cons.as_slice(), theory),
+        Body::Size { ty, term } => measure(alloc, at, DeclKind::Size, ty, term, theory, sources),
+        Body::Measure { ty, term } => measure(
+            alloc,
+            at,
+            DeclKind::Measure,
+            ty,
+            term,
+            theory,
+            sources,
+        ),
+        Body::Fun { .. } | Body::Function { .. } => Err(refused(at, Kind::NotBuilt)),
     }
 }

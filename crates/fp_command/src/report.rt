@@ -1,8 +1,10 @@
 //! The text of a file, from its bytes.
-ghost use Rattle.std.specs.Prelude.{◌≡◌, ◌++◌, [], true, false, IfOk, OnOk};
+ghost use Rattle.std.specs.Prelude.{◌≡◌, ◌++◌, [], map, true, false, IfOk, OnOk};
 ghost use Rattle.fp_lex.specs.Lexes.{Lexes, all};
+ghost use Rattle.fp_sources.specs.Sources.{source};
 ghost use Rattle.fp_report.specs.Items.{AreShown, item_lines};
 ghost use Rattle.fp_report.specs.Reasons.{IsShownReason, refusal_line};
+ghost use Rattle.fp_command.specs.Outcome.{session};
 ghost use Rattle.fp_command.specs.Reading.{IsExplained};
 ghost use Rattle.fp_command.specs.Report.{IsReport, Carries};
 ghost use Rattle.fp_command.specs.Steps.{Steps};
@@ -10,6 +12,7 @@ ghost use Rattle.fp_command.specs.Steps.{Steps};
 use crate::command::carry_out;
 use crate::fault::CommandFault;
 use fp_lex::{LexFault, Token, tokens};
+use fp_measure::MeasureSource;
 use fp_report::{Item, Kind, Reason, Refusal, push_item, push_refusal};
 use fp_syntax::{Command, SyntaxFault, read_file};
 use fp_theory::Theory;
@@ -58,11 +61,12 @@ fn carry_one(
     name: &str,
     command: &Command,
     theory: &mut Theory,
+    sources: &mut [Box<dyn MeasureSource + Send + Sync>],
     text: &mut Vec<u8>,
 ) -> Result<bool, AllocError>
-    ensures { IfOk result (λ refused. Steps full name.now theory.old theory.new command.now text.old.items text.new.items refused) }
+    ensures { IfOk result (λ refused. Steps full name.now (session theory.old (map (λ s. source (habits s) (entries s)) sources.old)) (session theory.new (map (λ s. source (habits s) (entries s)) sources.new)) command.now text.old.items text.new.items refused) }
 {
-    match carry_out(alloc, command, theory) {
+    match carry_out(alloc, command, theory, sources) {
         Ok(items) => {
             push_items(text, full, items.as_slice())?;
             Ok(false)
@@ -82,13 +86,14 @@ fn carry_each(
     name: &str,
     commands: &[Command],
     theory: &mut Theory,
+    sources: &mut [Box<dyn MeasureSource + Send + Sync>],
     text: &mut Vec<u8>,
 ) -> Result<bool, AllocError>
     requires { text.old.items ≡ [] }
-    ensures { IfOk result (λ refused. Carries full name.now theory.old commands.now text.new.items refused theory.new) }
+    ensures { IfOk result (λ refused. Carries full name.now (session theory.old (map (λ s. source (habits s) (entries s)) sources.old)) commands.now text.new.items refused (session theory.new (map (λ s. source (habits s) (entries s)) sources.new))) }
 {
     for command in commands {
-        if carry_one(alloc, full, name, command, theory, text)? {
+        if carry_one(alloc, full, name, command, theory, sources, text)? {
             return Ok(true);
         }
     }
@@ -102,11 +107,12 @@ fn carry_all(
     name: &str,
     commands: &[Command],
     theory: &mut Theory,
+    sources: &mut [Box<dyn MeasureSource + Send + Sync>],
 ) -> Result<Text, AllocError>
-    ensures { IfOk result (λ t. Carries full name.now theory.old commands.now t.bytes.items t.refused theory.new) }
+    ensures { IfOk result (λ t. Carries full name.now (session theory.old (map (λ s. source (habits s) (entries s)) sources.old)) commands.now t.bytes.items t.refused (session theory.new (map (λ s. source (habits s) (entries s)) sources.new))) }
 {
     let mut bytes = Vec::new(alloc);
-    let refused = carry_each(alloc, full, name, commands, theory, &mut bytes)?;
+    let refused = carry_each(alloc, full, name, commands, theory, sources, &mut bytes)?;
     Ok(Text { bytes, refused })
 }
 
@@ -136,12 +142,13 @@ fn report_tokens(
     bytes: &[u8],
     tokens: &[Token],
     theory: &mut Theory,
+    sources: &mut [Box<dyn MeasureSource + Send + Sync>],
 ) -> Result<Text, AllocError>
     requires { Lexes false 0 bytes.now (all tokens.now) }
-    ensures { IfOk result (λ t. IsReport full name.now bytes.now theory.old t.bytes.items t.refused theory.new) }
+    ensures { IfOk result (λ t. IsReport full name.now bytes.now (session theory.old (map (λ s. source (habits s) (entries s)) sources.old)) t.bytes.items t.refused (session theory.new (map (λ s. source (habits s) (entries s)) sources.new))) }
 {
     match read_file(alloc, bytes, tokens) {
-        Ok(commands) => carry_all(alloc, full, name, commands.as_slice(), theory),
+        Ok(commands) => carry_all(alloc, full, name, commands.as_slice(), theory, sources),
         Err(fault) => {
             let refusal = unreadable(fault)?;
             unread(alloc, full, name, refusal.at, refusal.reason)
@@ -149,18 +156,19 @@ fn report_tokens(
     }
 }
 
-/// The text of a file of these bytes, whose commands are carried out on the theory.
+/// The text of a file of these bytes, whose commands are carried out on the theory and the sources of measures.
 pub fn report_on(
     alloc: Global,
     full: bool,
     name: &str,
     bytes: &[u8],
     theory: &mut Theory,
+    sources: &mut [Box<dyn MeasureSource + Send + Sync>],
 ) -> Result<Text, AllocError>
-    ensures { IfOk result (λ t. IsReport full name.now bytes.now theory.old t.bytes.items t.refused theory.new) }
+    ensures { IfOk result (λ t. IsReport full name.now bytes.now (session theory.old (map (λ s. source (habits s) (entries s)) sources.old)) t.bytes.items t.refused (session theory.new (map (λ s. source (habits s) (entries s)) sources.new))) }
 {
     match tokens(alloc, bytes) {
-        Ok(tokens) => report_tokens(alloc, full, name, bytes, &tokens, theory),
+        Ok(tokens) => report_tokens(alloc, full, name, bytes, &tokens, theory, sources),
         Err(LexFault::BadByte(at)) => unread(alloc, full, name, at, Reason::Plain(Kind::BadByte)),
         Err(LexFault::OpenQuote(at)) => {
             unread(alloc, full, name, at, Reason::Plain(Kind::OpenQuote))

@@ -27,6 +27,20 @@ pub fn print_full_term(alloc: Global, term: &Term) -> Result<Vec<u8>, AllocError
     Ok(text)
 }
 
+/// Puts the text of a term at the end.
+pub fn print_full_term_onto(out: &mut Vec<u8>, term: &Term) -> Result<(), AllocError>
+    ensures { OnOk result (out.new.items ≡ out.old.items ++ printed term.now) }
+{
+    print_term_onto(out, term)
+}
+
+/// Puts the text of a type at the end.
+pub fn print_full_type_onto(out: &mut Vec<u8>, ty: &Ty) -> Result<(), AllocError>
+    ensures { OnOk result (out.new.items ≡ out.old.items ++ printed_type ty.now) }
+{
+    print_type_onto(out, ty)
+}
+
 /// Puts the text of a statement at the end.
 pub fn print_full_onto(out: &mut Vec<u8>, statement: &Statement) -> Result<(), AllocError>
     ensures { OnOk result (out.new.items ≡ out.old.items ++ printed_statement statement.now.hyps statement.now.concl) }

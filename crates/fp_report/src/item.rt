@@ -1,11 +1,11 @@
 //! What an accepted command shows.
 ghost use Rattle.std.specs.Prelude.{◌≡◌, ◌++◌, ◌∷◌, [], codes, OnOk};
 ghost use Rattle.fp_print.specs.Numbers.{HasOnly, AllHaveOnly};
-ghost use Rattle.fp_report.specs.Items.{item_line, statement_text, stated_line, named_line, IsShown, with_commas, commas_before};
+ghost use Rattle.fp_report.specs.Items.{item_line, statement_text, stated_line, named_line, IsShown, with_commas, commas_before, type_text, term_text, measure_line};
 
-use fp_full::print_full_onto;
-use fp_print::print_statement_onto;
-use fp_term::{Items, Name, Statement};
+use fp_full::{print_full_onto, print_full_term_onto, print_full_type_onto};
+use fp_print::{print_statement_onto, print_term_onto, print_type_onto};
+use fp_term::{Items, Name, Statement, Term, Ty};
 use std::alloc::AllocError;
 
 /// What a line shows. The name is the one that it begins with.
@@ -18,6 +18,10 @@ pub enum Item {
     Cong(Name),
     /// A type, and its constructors.
     Constructors(Name, Items<Name>),
+    /// A type, and the size of its values.
+    Size(Ty, Term),
+    /// A type, and a measure of its values.
+    Measure(Ty, Term),
 }
 
 /// Puts a statement at the end, in the full form or the short one.
@@ -34,6 +38,29 @@ pub(crate) fn push_statement(
         print_full_onto(text, statement)
     } else {
         print_statement_onto(text, statement)
+    }
+}
+
+// Puts a type at the end, in the full form or the short one.
+fn push_type(text: &mut Vec<u8>, full: bool, ty: &Ty) -> Result<(), AllocError>
+    ensures { OnOk result (text.new.items ≡ text.old.items ++ type_text full ty.now) }
+{
+    if full {
+        print_full_type_onto(text, ty)
+    } else {
+        print_type_onto(text, ty)
+    }
+}
+
+// Puts a term at the end, in the full form or the short one.
+fn push_term(text: &mut Vec<u8>, full: bool, term: &Term) -> Result<(), AllocError>
+    requires { HasOnly 0 term.now }
+    ensures { OnOk result (text.new.items ≡ text.old.items ++ term_text full term.now) }
+{
+    if full {
+        print_full_term_onto(text, term)
+    } else {
+        print_term_onto(text, term)
     }
 }
 
@@ -95,6 +122,24 @@ fn push_constructors(text: &mut Vec<u8>, name: &Name, names: &[Name]) -> Result<
     text.extend_from_slice(b"\n")
 }
 
+// Puts the line of a type's measure at the end.
+fn push_measure(
+    text: &mut Vec<u8>,
+    full: bool,
+    word: &[u8],
+    ty: &Ty,
+    term: &Term,
+) -> Result<(), AllocError>
+    requires { HasOnly 0 term.now }
+    ensures { OnOk result (text.new.items ≡ text.old.items ++ measure_line full word.now ty.now term.now) }
+{
+    text.extend_from_slice(word)?;
+    push_type(text, full, ty)?;
+    text.extend_from_slice(b": ")?;
+    push_term(text, full, term)?;
+    text.extend_from_slice(b"\n")
+}
+
 /// Puts the line of an item at the end.
 pub fn push_item(text: &mut Vec<u8>, full: bool, item: &Item) -> Result<(), AllocError>
     requires { IsShown item.now }
@@ -113,5 +158,7 @@ pub fn push_item(text: &mut Vec<u8>, full: bool, item: &Item) -> Result<(), Allo
         Item::Simp(name) => push_name(text, b"simp ", name, b"\n"),
         Item::Cong(name) => push_name(text, b"cong ", name, b"\n"),
         Item::Constructors(name, names) => push_constructors(text, name, names.as_slice()),
+        Item::Size(ty, term) => push_measure(text, full, b"size ", ty, term),
+        Item::Measure(ty, term) => push_measure(text, full, b"measure ", ty, term),
     }
 }

@@ -4,7 +4,7 @@ use Rattle.std.proofs.Math.Seq.{take-append-add}
 use Rattle.std.specs.Io.KnownBytes.{Appends, IsAtEnd}
 use Rattle.fp_outside.specs.Held.{IsNamed, IsLonger}
 use Rattle.fp_outside.specs.Sink.{AppendsPrefix}
-use Rattle.fp_theory.specs.State.{State}
+use Rattle.fp_command.specs.Outcome.{Session}
 use Rattle.fp_run.specs.declared.file.Written.{Written}
 use Rattle.fp_run.specs.declared.file.FileFault.TheVariants.{Files, Sink, NoMemory}
 use Rattle.fp_run.specs.Report.{Holds, Reports, finished, went_on, refused, none, more, last}
@@ -38,40 +38,40 @@ opens_then n None b c p q = rw (q, p) refl
 opens_then n (Some k) b c p q = rw (q, p) (ap Some (omega arith))
 
 -- no files
-pub runs_none : (full : Bool) (held : Holds) (room : ℕ) (s : State) (w : Option (List ℕ)) (o : Option ℕ) (current : Bool) → Runs full held room s [] w w o o current 0 s
+pub runs_none : (full : Bool) (held : Holds) (room : ℕ) (s : Session) (w : Option (List ℕ)) (o : Option ℕ) (current : Bool) → Runs full held room s [] w w o o current 0 s
 runs_none full held room s w o current = runs.accepted 0 finished (appends_none w w refl) (opens_none o o refl)
 
 -- a refused file
-refused_first : (full : Bool) (held : Holds) (file : List ℕ) (files : List (List ℕ)) (room left : ℕ) (s t : State) (text : List ℕ) (ends : Bool) (old new : Option (List ℕ)) (before after : Option ℕ) (current : Bool) →
+refused_first : (full : Bool) (held : Holds) (file : List ℕ) (files : List (List ℕ)) (room left : ℕ) (s t : Session) (text : List ℕ) (ends : Bool) (old new : Option (List ℕ)) (before after : Option ℕ) (current : Bool) →
     Reports full held file room s text ends t left → ends ≡ true → Appends old new text → OpensMore 1 before after → Runs full held room s (file ∷ files) old new before after current 1 t
 refused_first full held file files room left s t text ends old new before after current r e a o = runs.refused 1 (refused (rw e at r)) a o
 
-pub runs_refused : (full : Bool) (held : Holds) (file : List ℕ) (files : List (List ℕ)) (room : ℕ) (s t : State) (old new : Option (List ℕ)) (before after : Option ℕ) (current : Bool) (w : Written) →
+pub runs_refused : (full : Bool) (held : Holds) (file : List ℕ) (files : List (List ℕ)) (room : ℕ) (s t : Session) (old new : Option (List ℕ)) (before after : Option ℕ) (current : Bool) (w : Written) →
     WritesFile full held file room s old new before after current (Ok w) t → w.refused ≡ true → Runs full held room s (file ∷ files) old new before after current 1 t
 runs_refused full held file files room s t old new before after current w f e =
     refused_first full held file files room w.left s t f.0 w.refused old new before after current f.1 e f.2 f.3
 
 -- a file that isn't read or written
-pub runs_files_fault : (full : Bool) (held : Holds) (file : List ℕ) (files : List (List ℕ)) (room : ℕ) (s t : State) (old new : Option (List ℕ)) (before after : Option ℕ) (current : Bool) →
+pub runs_files_fault : (full : Bool) (held : Holds) (file : List ℕ) (files : List (List ℕ)) (room : ℕ) (s t : Session) (old new : Option (List ℕ)) (before after : Option ℕ) (current : Bool) →
     WritesFile full held file room s old new before after current (Err Files) t → Runs full held room s (file ∷ files) old new before after current 3 t
 runs_files_fault full held file files room s t old new before after false f = runs.unopened 0 none (appends_none old new f.0) (opens_none before after f.1)
 runs_files_fault full held file files room s t old new before after true f = runs.unread 0 none (appends_none old new f.0) f.1
 
-sink_fault : (full : Bool) (held : Holds) (file : List ℕ) (files : List (List ℕ)) (room left : ℕ) (s t : State) (text : List ℕ) (ends : Bool) (old new : Option (List ℕ)) (before after : Option ℕ) (current : Bool) →
+sink_fault : (full : Bool) (held : Holds) (file : List ℕ) (files : List (List ℕ)) (room left : ℕ) (s t : Session) (text : List ℕ) (ends : Bool) (old new : Option (List ℕ)) (before after : Option ℕ) (current : Bool) →
     Reports full held file room s text ends t left → AppendsPrefix old new text → OpensMore 1 before after → Runs full held room s (file ∷ files) old new before after current 4 t
 sink_fault full held file files room left s t text false old new before after current r a o = runs.unwritten 1 (more r none) (rw (append-nil text) a) o
 sink_fault full held file files room left s t text true old new before after current r a o = runs.unwritten 1 (last r) a o
 
-pub runs_sink_fault : (full : Bool) (held : Holds) (file : List ℕ) (files : List (List ℕ)) (room : ℕ) (s t : State) (old new : Option (List ℕ)) (before after : Option ℕ) (current : Bool) →
+pub runs_sink_fault : (full : Bool) (held : Holds) (file : List ℕ) (files : List (List ℕ)) (room : ℕ) (s t : Session) (old new : Option (List ℕ)) (before after : Option ℕ) (current : Bool) →
     WritesFile full held file room s old new before after current (Err Sink) t → Runs full held room s (file ∷ files) old new before after current 4 t
 runs_sink_fault full held file files room s t old new before after current f = sink_fault full held file files room f.2 s t f.0 f.1 old new before after current f.3 f.4 f.5
 
-pub runs_no_memory : (full : Bool) (held : Holds) (file : List ℕ) (files : List (List ℕ)) (room : ℕ) (s t : State) (old new : Option (List ℕ)) (before after : Option ℕ) (current : Bool) →
+pub runs_no_memory : (full : Bool) (held : Holds) (file : List ℕ) (files : List (List ℕ)) (room : ℕ) (s t : Session) (old new : Option (List ℕ)) (before after : Option ℕ) (current : Bool) →
     WritesFile full held file room s old new before after current (Err NoMemory) t → Runs full held room s (file ∷ files) old new before after current 5 t
 runs_no_memory full held file files room s t old new before after current f = runs.unmade 0 none (appends_none old new f.0) f.1
 
 -- the files after an accepted one
-after_first : (full : Bool) (held : Holds) (file : List ℕ) (files : List (List ℕ)) (room left status : ℕ) (s t u : State) (text : List ℕ) (old mid new : Option (List ℕ)) (before between after : Option ℕ) (current : Bool) →
+after_first : (full : Bool) (held : Holds) (file : List ℕ) (files : List (List ℕ)) (room left status : ℕ) (s t u : Session) (text : List ℕ) (old mid new : Option (List ℕ)) (before between after : Option ℕ) (current : Bool) →
     Reports full held file room s text false t left → Appends old mid text → OpensMore 1 before between → Runs full held left t files mid new between after current status u →
     Runs full held room s (file ∷ files) old new before after current status u
 after_first full held file files room left _ s t u text old mid new before between after current r a o (runs.accepted {text = rest} n q b p) =
@@ -87,7 +87,7 @@ after_first full held file files room left _ s t u text old mid new before betwe
 after_first full held file files room left _ s t u text old mid new before between after current r a o (runs.unmade {text = rest} n q b p) =
     runs.unmade (n + 1) (more r q) (appends_then old mid new text rest a b) (opens_then (n + 1) before between after o p)
 
-pub runs_on : (full : Bool) (held : Holds) (file : List ℕ) (files : List (List ℕ)) (room status : ℕ) (s t u : State) (old mid new : Option (List ℕ)) (before between after : Option ℕ) (first current : Bool) (w : Written) →
+pub runs_on : (full : Bool) (held : Holds) (file : List ℕ) (files : List (List ℕ)) (room status : ℕ) (s t u : Session) (old mid new : Option (List ℕ)) (before between after : Option ℕ) (first current : Bool) (w : Written) →
     WritesFile full held file room s old mid before between first (Ok w) t → w.refused ≡ false → Runs full held w.left t files mid new between after current status u →
     Runs full held room s (file ∷ files) old new before after current status u
 runs_on full held file files room status s t u old mid new before between after first current w f e q =

@@ -3,7 +3,7 @@ use Rattle.std.specs.Prelude.{◌≡◌, ℕ, List, Bool, IsTrue, if◌then◌el
 use Rattle.std.specs.Io.KnownBytes.{Appends}
 use Rattle.fp_outside.specs.Opened.{one_more}
 use Rattle.fp_outside.specs.Sink.{AppendsPrefix}
-use Rattle.fp_theory.specs.State.{State}
+use Rattle.fp_command.specs.Outcome.{Session}
 use Rattle.fp_run.specs.Report.{Holds, Reports}
 use Rattle.fp_run.specs.declared.file.Written.{Written}
 use Rattle.fp_run.specs.declared.file.FileFault.{FileFault}
@@ -24,7 +24,7 @@ WritesReport old new text ends left (Err Sink) = AppendsPrefix old new text
 WritesReport old new text ends left (Err NoMemory) = ⊥
 
 -- what is written and opened for one file, with its answer
-abbrev pub WritesFile : Bool → Holds → List ℕ → ℕ → State → Option (List ℕ) → Option (List ℕ) → Option ℕ → Option ℕ → Bool → Result Written FileFault → State → Type 0
+abbrev pub WritesFile : Bool → Holds → List ℕ → ℕ → Session → Option (List ℕ) → Option (List ℕ) → Option ℕ → Option ℕ → Bool → Result Written FileFault → Session → Type 0
 WritesFile full held file room s old new before after current (Ok w) t =
     (text : List ℕ) × Reports full held file room s text w.refused t w.left × Appends old new text × (after ≡ one_more before)
 WritesFile full held file room s old new before after current (Err Files) t = (new ≡ old) × (after ≡ (if current then one_more before else before))

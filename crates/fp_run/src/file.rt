@@ -1,14 +1,17 @@
 //! One file: read, carried out, and its text written.
-ghost use Rattle.std.specs.Prelude.{◌≡◌, ◌<◌, ◌≤◌, ◌-◌, ◌^◌, ◌↔◌, ◌⊎◌, IfOk, IsTrue, if◌then◌else◌};
+ghost use Rattle.std.specs.Prelude.{◌≡◌, ◌<◌, ◌≤◌, ◌-◌, ◌^◌, ◌↔◌, ◌⊎◌, map, IfOk, IsTrue, if◌then◌else◌};
 ghost use Rattle.std.specs.Result.{IsErrOf};
 ghost use Rattle.std.specs.Io.KnownBytes.{IsAtEnd};
 ghost use Rattle.fp_outside.specs.Held.{IsNamed, IsLonger};
 ghost use Rattle.fp_outside.specs.Opened.{one_more};
+ghost use Rattle.fp_sources.specs.Sources.{source};
+ghost use Rattle.fp_command.specs.Outcome.{session};
 ghost use Rattle.fp_run.specs.Report.{Reports};
 ghost use Rattle.fp_run.specs.Files.{WritesFile, WritesReport, LeavesOpen};
 ghost use Rattle.fp_run.specs.declared.file.FileFault.TheVariants as fault;
 
 use fp_command::{Text, report_on, unread};
+use fp_measure::MeasureSource;
 use fp_outside::{Failed, Files, ReadFault, Sink, read_all, write_all};
 use fp_report::{Kind, Reason};
 use fp_theory::Theory;
@@ -52,9 +55,10 @@ fn report_file<F: Files>(
     room: u32,
     files: &mut F,
     theory: &mut Theory,
+    sources: &mut [Box<dyn MeasureSource + Send + Sync>],
 ) -> Result<Report, FileFault>
     requires { F.faults files.old < 2 ^ 64 - 1 }
-    ensures reports { IfOk result (λ r. Reports full (F.held files.old) name.now room theory.old r.text.bytes.items r.text.refused theory.new r.left) }
+    ensures reports { IfOk result (λ r. Reports full (F.held files.old) name.now room (session theory.old (map (λ s. source (habits s) (entries s)) sources.old)) r.text.bytes.items r.text.refused (session theory.new (map (λ s. source (habits s) (entries s)) sources.new)) r.left) }
     ensures failed { IsErrOf result FileFault.Files ↔ (F.faults files.old < F.faults files.new) }
     ensures made { IsErrOf result FileFault.Sink → ⊥ }
     ensures counts { F.faults files.old ≤ F.faults files.new }
@@ -66,7 +70,7 @@ fn report_file<F: Files>(
 {
     match read_all(alloc, files, name, room as usize) {
         Ok(bytes) => {
-            let text = report_on(alloc, full, name, &bytes, theory)?;
+            let text = report_on(alloc, full, name, &bytes, theory, sources)?;
             let left = room - bytes.len() as u32;
             Ok(Report { text, left })
         }
@@ -104,10 +108,11 @@ pub(crate) fn write_file<F: Files, K: Sink>(
     files: &mut F,
     sink: &mut K,
     theory: &mut Theory,
+    sources: &mut [Box<dyn MeasureSource + Send + Sync>],
 ) -> Result<Written, FileFault>
     requires files { F.faults files.old < 2 ^ 64 - 1 }
     requires sink { K.faults sink.old < 2 ^ 64 - 1 }
-    ensures writes { WritesFile full (F.held files.old) name.now room theory.old (K.written sink.old) (K.written sink.new) (F.opened files.old) (F.opened files.new) (F.current files.new) result theory.new }
+    ensures writes { WritesFile full (F.held files.old) name.now room (session theory.old (map (λ s. source (habits s) (entries s)) sources.old)) (K.written sink.old) (K.written sink.new) (F.opened files.old) (F.opened files.new) (F.current files.new) result (session theory.new (map (λ s. source (habits s) (entries s)) sources.new)) }
     ensures held { F.held files.new ≡ F.held files.old }
     ensures named { IsTrue (F.current files.new) → IsNamed (F.named files.new) name.now }
     ensures current { IfOk result (λ _. IsTrue (F.current files.new)) }
@@ -118,7 +123,7 @@ pub(crate) fn write_file<F: Files, K: Sink>(
     ensures files_count { F.faults files.old ≤ F.faults files.new }
     ensures sink_count { K.faults sink.old ≤ K.faults sink.new }
 {
-    match report_file(alloc, full, name, room, files, theory) {
+    match report_file(alloc, full, name, room, files, theory, sources) {
         Ok(report) => write_report(sink, &report),
         Err(fault) => Err(fault),
     }

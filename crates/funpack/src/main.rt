@@ -7,6 +7,7 @@ mod opening;
 mod tests;
 
 use environment::words_of;
+use fp_measure::{DeclaredSource, MeasureSource, SizeSource};
 use fp_outside::{RealFiles, StdSink};
 use fp_run::{run, words};
 use fp_theory::Theory;
@@ -45,12 +46,26 @@ fn explain(rt: &HostRuntime, status: u8, file: Option<&str>) {
     };
 }
 
-// Runs the files that the words name on a new theory.
+// Runs the files that the words name on a new theory, with sizes and then declared measures.
+fn run_files(
+    rt: &HostRuntime,
+    asking: &[String],
+    files: &mut Opening<RealFiles<'_, HostRuntime>>,
+) -> Result<u8, AllocError> {
+    let alloc = rt.alloc();
+    let mut theory = Theory::new(alloc)?;
+    let mut sources: Vec<Box<dyn MeasureSource + Send + Sync>> = Vec::new(alloc);
+    sources.push(Box::new(alloc, SizeSource::new(alloc))?)?;
+    sources.push(Box::new(alloc, DeclaredSource::new(alloc))?)?;
+    let mut sink = StdSink::new(rt);
+    Ok(run(alloc, asking, files, &mut sink, &mut theory, sources))
+}
+
+// Runs the files that the words name, and says what the status means where the text doesn't.
 fn run_words(rt: &HostRuntime, asking: &[String]) -> u8 {
     let mut files = Opening::new(RealFiles::new(rt));
-    let mut sink = StdSink::new(rt);
-    let status = match Theory::new(rt.alloc()) {
-        Ok(mut theory) => run(rt.alloc(), asking, &mut files, &mut sink, &mut theory),
+    let status = match run_files(rt, asking, &mut files) {
+        Ok(status) => status,
         Err(AllocError) => 5,
     };
     explain(rt, status, last_opened(asking, files.count()));

@@ -1,4 +1,5 @@
 // The program's run over files and a sink in memory.
+use fp_measure::{DeclaredSource, MeasureSource, SizeSource};
 use fp_outside::{MemFiles, MemSink};
 use fp_run::run;
 use fp_theory::Theory;
@@ -21,6 +22,20 @@ fn words_of(alloc: Global, texts: &[&str]) -> Result<Vec<String>, AllocError> {
     Ok(words)
 }
 
+// Runs the files on a new theory, with sizes and then declared measures.
+fn run_files(
+    alloc: Global,
+    words: &[String],
+    files: &mut MemFiles,
+    sink: &mut MemSink,
+) -> Result<u8, AllocError> {
+    let mut theory = Theory::new(alloc)?;
+    let mut sources: Vec<Box<dyn MeasureSource + Send + Sync>> = Vec::new(alloc);
+    sources.push(Box::new(alloc, SizeSource::new(alloc))?)?;
+    sources.push(Box::new(alloc, DeclaredSource::new(alloc))?)?;
+    Ok(run(alloc, words, files, sink, &mut theory, sources))
+}
+
 // Which calls fail, the room of the sink, and what must come of it.
 #[derive(Clone, Copy)]
 struct Row<'a> {
@@ -40,9 +55,8 @@ fn try_row(rt: &impl Abort, alloc: Global, row: Row<'_>) -> Result<(), AllocErro
     files.fail_at(row.file_call);
     let mut sink = MemSink::with_room(alloc, row.room)?;
     sink.fail_at(row.sink_call);
-    let mut theory = Theory::new(alloc)?;
     assert_eq!(rt;
-        run(alloc, &words, &mut files, &mut sink, &mut theory),
+        run_files(alloc, &words, &mut files, &mut sink)?,
         row.status
     );
     assert_eq!(rt; sink.written(), row.written);
@@ -105,10 +119,15 @@ const YES_LINES: &[u8] =
 #[test]
 fn short_lines(rt: HostRuntime) -> Result<(), Fail> {
     let alloc = rt.alloc();
-    let rows: [(&[u8], u8, &[u8]); 6] = [
+    let rows: [(&[u8], u8, &[u8]); 7] = [
         (TT, 0, b"definition tt_def: |- tt = (%a. a)\n"),
         (b"", 0, b""),
         (YES, 0, YES_LINES),
+        (
+            b"definition c = \"T\" simp c_def cong c_def",
+            1,
+            b"definition c_def: |- c = T\nsimp c_def\nrefused a.hol at 30: NotRuleShape\n",
+        ),
         (
             BAD_LINE,
             1,
@@ -222,7 +241,7 @@ fn refusals_in_order(rt: HostRuntime) -> Result<(), Fail> {
 #[test]
 fn refused_commands(rt: HostRuntime) -> Result<(), Fail> {
     let alloc = rt.alloc();
-    let rows: [(&[u8], &[u8]); 11] = [
+    let rows: [(&[u8], &[u8]); 13] = [
         (
             b"definition c = \"(%x. x) = (%x. x)\"",
             b"refused a.hol at 0: HiddenType 'a\n",
@@ -256,7 +275,12 @@ fn refused_commands(rt: HostRuntime) -> Result<(), Fail> {
             b"typedef t abs a rep r by ETA",
             b"refused a.hol at 0: NotClosed t\n",
         ),
-        (b" simp none", b"refused a.hol at 1: NotBuilt\n"),
+        (b" simp none", b"refused a.hol at 1: NoSuchTheorem none\n"),
+        (
+            b"constructors bool = T, F",
+            b"refused a.hol at 0: LacksLemma bool_exhaust\n",
+        ),
+        (b"size [bool] \"%x. x\"", b"refused a.hol at 14: Clash\n"),
         (
             b"fun f :: \"bool\" where \"f\"",
             b"refused a.hol at 0: NotBuilt\n",
@@ -364,8 +388,7 @@ fn limit_of_files(rt: HostRuntime) -> Result<(), Fail> {
     files.add("a.hol", &most)?;
     files.add("b.hol", b"# abc")?;
     let mut sink = MemSink::with_room(alloc, 1000)?;
-    let mut theory = Theory::new(alloc)?;
-    assert_eq!(rt; run(alloc, &words, &mut files, &mut sink, &mut theory), 1);
+    assert_eq!(rt; run_files(alloc, &words, &mut files, &mut sink)?, 1);
     let line: &[u8] = b"refused b.hol at 4: TooLong\n";
     assert_eq!(rt; sink.written(), line);
     Ok(())
@@ -481,13 +504,9 @@ fn several_files(rt: HostRuntime) -> Result<(), Fail> {
         let mut files = MemFiles::new(alloc);
         files.add("a.hol", b"definition t = \"T\"")?;
         files.add("b.hol", b"definition u = \"t\"")?;
-        files.add("c.hol", b"simp T_def")?;
+        files.add("c.hol", b"fun f :: \"bool\" where \"f\"")?;
         let mut sink = MemSink::with_room(alloc, 1000)?;
-        let mut theory = Theory::new(alloc)?;
-        assert_eq!(rt;
-            run(alloc, &words, &mut files, &mut sink, &mut theory),
-            status
-        );
+        assert_eq!(rt; run_files(alloc, &words, &mut files, &mut sink)?, status);
         assert_eq!(rt; sink.written(), written);
     }
     Ok(())
