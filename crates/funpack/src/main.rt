@@ -1,6 +1,8 @@
 //! funpack: theory files of higher-order logic, whose definitions, types and lemmas become theorems.
 #![tactic(auto)]
 
+ghost use Rattle.std.specs.Prelude.{◌<◌, ◌-◌, ◌^◌};
+
 mod environment;
 mod opening;
 #[cfg(test)]
@@ -51,7 +53,9 @@ fn run_files(
     rt: &HostRuntime,
     asking: &[String],
     files: &mut Opening<RealFiles<'_, HostRuntime>>,
-) -> Result<u8, AllocError> {
+) -> Result<u8, AllocError>
+    requires { files.old.files.failures < 2 ^ 64 - 1 }
+{
     let alloc = rt.alloc();
     let mut theory = Theory::new(alloc)?;
     let mut sources: Vec<Box<dyn MeasureSource + Send + Sync>> = Vec::new(alloc);
