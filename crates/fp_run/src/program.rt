@@ -122,7 +122,16 @@ fn run_files<F: Files, K: Sink>(
                 if written.refused {
                     1
                 } else {
-                    run_files(alloc, full, rest, written.left, files, sink, theory, sources)
+                    run_files(
+                        alloc,
+                        full,
+                        rest,
+                        written.left,
+                        files,
+                        sink,
+                        theory,
+                        sources,
+                    )
                 }
             }
             Err(FileFault::Files) => 3,
