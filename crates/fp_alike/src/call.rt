@@ -3,12 +3,13 @@ ghost use Rattle.std.specs.Prelude.{◌≡◌, OnOk};
 
 use crate::around::Around;
 use crate::equal::equal_at;
-use crate::walk::{Walk, as_term};
+use crate::rule::put_for;
+use crate::walk::Walk;
 use fp_meaning::Setting;
 use fp_proof::{Line, Proof, Stop};
 use fp_spec::{as_terms, in_term, parameters};
 use fp_term::{Items, Name, Term, Ty};
-use std::alloc::{AllocError, Global};
+use std::alloc::Global;
 
 // `in(x1, .., xn)`, at a function's parameters.
 fn in_parameters(
@@ -39,26 +40,6 @@ fn arguments_equal(
     equal_at(proof, vars.as_slice(), &argument, equations)
 }
 
-// The variables with the terms for them that stand in the same places.
-fn pairs_of(
-    alloc: Global,
-    vars: &[(Name, Ty)],
-    by: &[(Name, Ty)],
-) -> Result<Items<(Name, Ty, Term)>, Stop> {
-    if vars.len() != by.len() {
-        return Err(Stop::Stuck);
-    }
-    let mut pairs = Items::new(alloc);
-    for at in 0..vars.len() {
-        pairs.push((
-            vars[at].0.copy()?,
-            vars[at].1.copy()?,
-            as_term(alloc, &by[at])?,
-        ))?;
-    }
-    Ok(pairs)
-}
-
 // The site's rule with the walk's variables for its own.
 fn row_rule(
     proof: &mut Proof<'_>,
@@ -71,7 +52,8 @@ fn row_rule(
     ensures { OnOk result (proof.new ≡ proof.old) }
 {
     let own = walk.setting.site(site)?.vars.as_slice();
-    let pairs = pairs_of(proof.alloc(), own, around.vars.as_slice())?;
+    let vars = as_terms(proof.alloc(), around.vars.as_slice())?;
+    let pairs = put_for(proof.alloc(), own, vars.as_slice())?;
     let rule = walk.setting.row_rule(proof, site, by, argument, &walk.x)?;
     proof.inst(rule, pairs.as_slice())
 }

@@ -23,7 +23,7 @@ pub(crate) fn right_sides(proof: &Proof<'_>, equations: &[Line]) -> Result<Items
     Ok(sides)
 }
 
-/// `b = c` from `a = b`, `a = d` and `d = c`.
+// `b = c` from `a = b`, `a = d` and `d = c`.
 fn between(proof: &mut Proof<'_>, first: Line, both: Line, second: Line) -> Result<Line, Stop>
     ensures { OnOk result (proof.new ≡ proof.old) }
 {

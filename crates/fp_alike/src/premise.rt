@@ -7,8 +7,9 @@ use crate::instance::Instance;
 use crate::rule::{behind, premise_in};
 use crate::walk::as_term;
 use fp_conclude::argument_in;
-use fp_group::{CongPremise, copy_variables};
+use fp_group::CongPremise;
 use fp_proof::{Line, Proof, Stop};
+use fp_spec::as_terms;
 use fp_term::{Items, Name, Node, Term, Ty, occurs, open_with};
 use std::alloc::{AllocError, Global};
 
@@ -198,19 +199,11 @@ pub(crate) fn opened_along<'v>(
     Ok((opened, &vars[vars.len()..]))
 }
 
-fn all_terms(alloc: Global, vars: &[(Name, Ty)]) -> Result<Items<Term>, AllocError> {
-    let mut terms = Items::new(alloc);
-    for var in vars {
-        terms.push(as_term(alloc, var)?)?;
-    }
-    Ok(terms)
-}
-
 // `f v1 .. vn = g v1 .. vn` from `f = g`.
 fn at_all(proof: &mut Proof<'_>, vars: &[(Name, Ty)], line: Line) -> Result<Line, Stop>
     ensures { OnOk result (proof.new ≡ proof.old) }
 {
-    let terms = all_terms(proof.alloc(), vars)?;
+    let terms = as_terms(proof.alloc(), vars)?;
     let mut made = line;
     for term in terms.as_slice() {
         made = proof.ap_arg(made, term)?;
@@ -228,7 +221,7 @@ fn applied(
 ) -> Result<Line, Stop>
     ensures { OnOk result (proof.new ≡ proof.old) }
 {
-    let terms = all_terms(proof.alloc(), vars)?;
+    let terms = as_terms(proof.alloc(), vars)?;
     let by_h = term_at(instance.by_h.as_slice(), index)?;
     let by_k = term_at(instance.by_k.as_slice(), index)?;
     let first = proof.contracted_all(by_h, terms.as_slice())?;

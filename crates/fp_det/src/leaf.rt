@@ -10,8 +10,12 @@ use fp_proof::{Line, Proof, Stop};
 use fp_term::{Items, Name, Term, Ty};
 use std::alloc::Global;
 
-// The term for the variable, the only one.
-fn one_pair(alloc: Global, var: &(Name, Ty), term: &Term) -> Result<Items<(Name, Ty, Term)>, Stop> {
+/// The term for the variable, the only one.
+pub(crate) fn one_pair(
+    alloc: Global,
+    var: &(Name, Ty),
+    term: &Term,
+) -> Result<Items<(Name, Ty, Term)>, Stop> {
     let pair = (var.0.copy()?, var.1.copy()?, term.copy()?);
     Ok(Items::new(alloc).appended(pair)?)
 }

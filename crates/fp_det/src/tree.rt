@@ -1,7 +1,7 @@
 //! Cases of the argument.
 ghost use Rattle.std.specs.Prelude.{◌≡◌, OnOk};
 
-use crate::leaf::{leaf, premises_at};
+use crate::leaf::{leaf, one_pair, premises_at};
 use crate::live::{Live, as_term, narrowed};
 use fp_complete::{Branch, branches, clause_of, joined, split_variable};
 use fp_conclude::equation;
@@ -31,15 +31,7 @@ fn right_of(rights: &[Line], j: usize) -> Result<Line, Stop> {
     }
 }
 
-fn value_for(
-    alloc: Global,
-    var: &(Name, Ty),
-    value: &Term,
-) -> Result<Items<(Name, Ty, Term)>, Stop> {
-    let pair = (var.0.copy()?, var.1.copy()?, value.copy()?);
-    Ok(Items::new(alloc).appended(pair)?)
-}
-
+// A pattern, and what is known of it.
 #[derive(Drop)]
 struct Narrower {
     q: Term,
@@ -57,7 +49,7 @@ fn with_value(
     ensures { OnOk result (proof.new ≡ proof.old) }
 {
     let alloc = proof.alloc();
-    let pairs = value_for(alloc, var, &branch.value)?;
+    let pairs = one_pair(alloc, var, &branch.value)?;
     let line = proof.inst(live.line, pairs.as_slice())?;
     let mut clauses = Items::new(alloc);
     for j in live.clauses.as_slice() {
@@ -108,7 +100,7 @@ fn split(
     joined(proof, &var, &formula, all.as_slice(), lines.as_slice())
 }
 
-// The formula of a pattern, from its clauses; after so many splits it is stuck.
+/// The formula of a pattern, from its clauses; after so many splits it is stuck.
 #[cycle(cases)]
 pub(crate) fn case(
     proof: &mut Proof<'_>,
