@@ -5,7 +5,7 @@ use crate::roles::{Role, hiding, implication_in, roles_of};
 use fp_conclude::{apply, apply_both, implication};
 use fp_group::Head;
 use fp_meaning::Setting;
-use fp_proof::{Line, Proof, Stop};
+use fp_proof::{Proof, Stop};
 use fp_shapes::{conjunctions, for_alls, lambdas, variable};
 use fp_term::{Items, Name, Term, Ty, inst, next};
 use std::alloc::{AllocError, Global};

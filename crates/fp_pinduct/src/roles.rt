@@ -1,6 +1,6 @@
 //! The functions of a group in their induction: their predicates, as statements show them and under new names, and variables for
 //! their arguments.
-ghost use Rattle.std.specs.Prelude.{◌≡◌, ◌<◌, length, IfOk, OnOk};
+ghost use Rattle.std.specs.Prelude.{◌≡◌, IfOk, OnOk};
 ghost use Rattle.fp_spec.specs.Statements.{pinduct_of, induct_of};
 
 use fp_conclude::equation;
