@@ -5,7 +5,7 @@ use crate::lemmas::definition;
 use crate::shared::{Constants, Meaning, Variables};
 use fp_group::{CallSite, Clause, Group, copy_variables};
 use fp_proof::{Line, Proof, Stop};
-use fp_shapes::variable;
+use fp_shapes::{disjunctions, variable};
 use fp_spec::{clause_fact, clause_part, clause_variables, row_fact, row_part};
 use fp_term::{Items, Name, Term, Ty};
 use std::alloc::{AllocError, Global};
@@ -43,24 +43,75 @@ fn unfolded(proof: &mut Proof<'_>, constant: &Term, place: &Place) -> Result<Lin
     proof.applied_to(line, terms.as_slice())
 }
 
-// From a fact about variables to the whole, whose part of that index says that there are such values.
+// From a fact about variables to what the rule gives, whose premise begins with the part that says that there are such
+// values; the other parts behind it are this formula, where there are any.
 fn introduced(
     proof: &mut Proof<'_>,
     fact: &Term,
     vars: &[(Name, Ty)],
-    parts: &[Term],
-    index: usize,
-    folding: Line,
+    behind: Option<&Term>,
+    rule: Line,
 ) -> Result<Line, Stop>
     ensures { OnOk result (proof.new ≡ proof.old) }
 {
     let mark = proof.mark();
     let held = proof.assume(fact)?;
-    let some = proof.somes_from(vars, held)?;
-    let either = proof.disjunct_from(parts, index, some)?;
-    let whole = proof.eq_mp(folding, either)?;
-    let rule = proof.disch(fact, whole)?;
-    proof.keep(mark, rule)
+    let mut some = proof.somes_from(vars, held)?;
+    if let Some(behind) = behind {
+        some = proof.disj1(some, behind)?;
+    }
+    let whole = proof.mp(rule, some)?;
+    let made = proof.disch(fact, whole)?;
+    proof.keep(mark, made)
+}
+
+// `r --> q` from `p \/ r --> q`.
+fn without_first(
+    proof: &mut Proof<'_>,
+    first: &Term,
+    behind: &Term,
+    rule: Line,
+) -> Result<Line, Stop>
+    ensures { OnOk result (proof.new ≡ proof.old) }
+{
+    let held = proof.assume(behind)?;
+    let either = proof.disj2(first, held)?;
+    let whole = proof.mp(rule, either)?;
+    proof.disch(behind, whole)
+}
+
+// `p --> q` from `q = p`.
+fn folding_rule(proof: &mut Proof<'_>, unfolded: Line) -> Result<Line, Stop>
+    ensures { OnOk result (proof.new ≡ proof.old) }
+{
+    let meaning = proof.right(unfolded)?;
+    let held = proof.assume(&meaning)?;
+    let folding = proof.sym(unfolded)?;
+    let whole = proof.eq_mp(folding, held)?;
+    proof.disch(&meaning, whole)
+}
+
+// The disjunction of the parts behind the index, where there are any.
+fn parts_behind(alloc: Global, parts: &[Term], index: usize) -> Result<Option<Term>, AllocError> {
+    if index >= parts.len() || index + 1 == parts.len() {
+        return Ok(None);
+    }
+    Ok(Some(disjunctions(alloc, &parts[index + 1..])?))
+}
+
+// The rule whose premise has one part less, where parts are behind it.
+fn next_rule(
+    proof: &mut Proof<'_>,
+    first: &Term,
+    behind: Option<&Term>,
+    rule: Line,
+) -> Result<Line, Stop>
+    ensures { OnOk result (proof.new ≡ proof.old) }
+{
+    match behind {
+        Some(behind) => without_first(proof, first, behind, rule),
+        None => Ok(rule),
+    }
 }
 
 fn clause_parts(alloc: Global, group: &Group, place: &Place) -> Result<Items<Term>, AllocError> {
@@ -89,10 +140,9 @@ fn clause_rule(
     proof: &mut Proof<'_>,
     group: &Group,
     place: &Place,
-    parts: &[Term],
-    index: usize,
     clause: &Clause,
-    folding: Line,
+    behind: Option<&Term>,
+    rule: Line,
 ) -> Result<Line, Stop>
     ensures { OnOk result (proof.new ≡ proof.old) }
 {
@@ -100,7 +150,7 @@ fn clause_rule(
     let heads = group.heads.as_slice();
     let fact = clause_fact(alloc, heads, &place.h, &place.first, &place.second, clause)?;
     let vars = clause_variables(alloc, clause)?;
-    introduced(proof, &fact, vars.as_slice(), parts, index, folding)
+    introduced(proof, &fact, vars.as_slice(), behind, rule)
 }
 
 fn row_variables(
@@ -116,10 +166,9 @@ fn row_rule(
     proof: &mut Proof<'_>,
     group: &Group,
     place: &Place,
-    parts: &[Term],
-    index: usize,
     site: &CallSite,
-    folding: Line,
+    behind: Option<&Term>,
+    rule: Line,
 ) -> Result<Line, Stop>
     ensures { OnOk result (proof.new ≡ proof.old) }
 {
@@ -131,7 +180,7 @@ fn row_rule(
     let h = &place.h;
     let fact = row_fact(alloc, heads, h, &place.first, &place.second, clause, site)?;
     let vars = row_variables(alloc, clause, site)?;
-    introduced(proof, &fact, vars.as_slice(), parts, index, folding)
+    introduced(proof, &fact, vars.as_slice(), behind, rule)
 }
 
 fn clause_rules(
@@ -142,22 +191,18 @@ fn clause_rules(
 ) -> Result<Items<Line>, Stop>
     ensures { OnOk result (proof.new ≡ proof.old) }
 {
-    let parts = clause_parts(proof.alloc(), group, place)?;
-    let folding = proof.sym(unfolded)?;
+    let all = clause_parts(proof.alloc(), group, place)?;
+    let parts = all.as_slice();
+    let mut rest = folding_rule(proof, unfolded)?;
     let mut rules = Items::new(proof.alloc());
     let clauses = group.clauses.as_slice();
     for index in 0..clauses.len() {
-        let clause = &clauses[index];
-        let rule = clause_rule(
-            proof,
-            group,
-            place,
-            parts.as_slice(),
-            index,
-            clause,
-            folding,
-        )?;
-        rules.push(rule)?;
+        if index >= parts.len() {
+            return Err(Stop::Stuck);
+        }
+        let behind = parts_behind(proof.alloc(), parts, index)?;
+        rules.push(clause_rule(proof, group, place, &clauses[index], behind.as_ref(), rest)?)?;
+        rest = next_rule(proof, &parts[index], behind.as_ref(), rest)?;
     }
     Ok(rules)
 }
@@ -170,14 +215,18 @@ fn row_rules(
 ) -> Result<Items<Line>, Stop>
     ensures { OnOk result (proof.new ≡ proof.old) }
 {
-    let parts = row_parts(proof.alloc(), group, place)?;
-    let folding = proof.sym(unfolded)?;
+    let all = row_parts(proof.alloc(), group, place)?;
+    let parts = all.as_slice();
+    let mut rest = folding_rule(proof, unfolded)?;
     let mut rules = Items::new(proof.alloc());
     let sites = group.sites.as_slice();
     for index in 0..sites.len() {
-        let site = &sites[index];
-        let rule = row_rule(proof, group, place, parts.as_slice(), index, site, folding)?;
-        rules.push(rule)?;
+        if index >= parts.len() {
+            return Err(Stop::Stuck);
+        }
+        let behind = parts_behind(proof.alloc(), parts, index)?;
+        rules.push(row_rule(proof, group, place, &sites[index], behind.as_ref(), rest)?)?;
+        rest = next_rule(proof, &parts[index], behind.as_ref(), rest)?;
     }
     Ok(rules)
 }
