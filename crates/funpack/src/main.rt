@@ -1,61 +1,19 @@
-//! funpack: definitions of higher-order logic, read from files, as theorems.
+//! funpack: theory files of higher-order logic, whose definitions, types and lemmas become theorems.
 #![tactic(auto)]
 
-mod commands;
-mod refusal;
-mod report;
-mod run;
+mod environment;
+mod opening;
 #[cfg(test)]
 mod tests;
-mod words;
 
+use environment::words_of;
+use fp_measure::{DeclaredSource, MeasureSource, SizeSource};
 use fp_outside::{RealFiles, StdSink};
-use run::run;
-use std::alloc::{Alloc, Global};
-use std::env::FillError;
+use fp_run::{run, words};
+use fp_theory::Theory;
+use opening::Opening;
+use std::alloc::AllocError;
 use std::process::ExitCode;
-use std::rt::Env;
-use std::{env, io};
-
-// The environment without the program's own name, which isn't looked at.
-#[derive(Drop)]
-struct WithoutName<'a, R> {
-    rt: &'a R,
-}
-
-impl<'a, R: Env> Env for WithoutName<'a, R> {
-    fn arg(&self, i: usize, buf: &mut [u8]) -> Result<usize, FillError> {
-        match i.checked_add(1) {
-            Some(next) => self.rt.arg(next, buf),
-            None => Err(FillError::NotPresent),
-        }
-    }
-
-    fn var(&self, name: &str, buf: &mut [u8]) -> Result<usize, FillError> {
-        self.rt.var(name, buf)
-    }
-
-    fn var_at(&self, i: usize, buf: &mut [u8]) -> Result<usize, FillError> {
-        self.rt.var_at(i, buf)
-    }
-}
-
-impl<'a, R: AllocGlobal> Alloc for WithoutName<'a, R> {
-    type A = Global;
-
-    fn alloc(&self) -> Global {
-        self.rt.alloc()
-    }
-}
-
-// The words after the program's name. Words that aren't text count as none, which are malformed.
-fn words_of(rt: &(impl Env + AllocGlobal)) -> io::Result<Vec<String>> {
-    match env::args(&WithoutName { rt }) {
-        Ok(words) => Ok(words.collect(rt.alloc())?),
-        Err(fault) if fault.kind() == io::ErrorKind::InvalidData => Ok(Vec::new(rt.alloc())),
-        Err(fault) => Err(fault),
-    }
-}
 
 // What the status means, where the text doesn't say it.
 fn meaning(status: u8) -> Option<&'static str> {
@@ -67,17 +25,59 @@ fn meaning(status: u8) -> Option<&'static str> {
     }
 }
 
-fn main(rt: HostRuntime) -> ExitCode {
-    let status = match words_of(&rt) {
-        Ok(words) => {
-            let mut files = RealFiles::new(&rt);
-            let mut sink = StdSink::new(&rt);
-            run(rt.alloc(), &words, &mut files, &mut sink)
+// The file that was opened last, or tried to be, where the words name that many.
+fn last_opened(asking: &[String], count: usize) -> Option<&str> {
+    match words(asking) {
+        Some(asked) if 0 < count && count <= asked.names.len() => {
+            Some(asked.names[count - 1].as_str())
         }
-        Err(_) => 5,
-    };
-    if let Some(meaning) = meaning(status) {
-        let _ = eprintln!(rt; "funpack: {meaning}");
+        _ => None,
     }
-    ExitCode::from(status)
+}
+
+// Says on the error stream what the status means, with the file that was the last one.
+fn explain(rt: &HostRuntime, status: u8, file: Option<&str>) {
+    let Some(meaning) = meaning(status) else {
+        return;
+    };
+    let _ = match file {
+        Some(file) => eprintln!(rt; "funpack: at {file:?}: {meaning}"),
+        None => eprintln!(rt; "funpack: {meaning}"),
+    };
+}
+
+// Runs the files that the words name on a new theory, with sizes and then declared measures.
+fn run_files(
+    rt: &HostRuntime,
+    asking: &[String],
+    files: &mut Opening<RealFiles<'_, HostRuntime>>,
+) -> Result<u8, AllocError> {
+    let alloc = rt.alloc();
+    let mut theory = Theory::new(alloc)?;
+    let mut sources: Vec<Box<dyn MeasureSource + Send + Sync>> = Vec::new(alloc);
+    sources.push(Box::new(alloc, SizeSource::new(alloc))?)?;
+    sources.push(Box::new(alloc, DeclaredSource::new(alloc))?)?;
+    let mut sink = StdSink::new(rt);
+    Ok(run(alloc, asking, files, &mut sink, &mut theory, sources))
+}
+
+// Runs the files that the words name, and says what the status means where the text doesn't.
+fn run_words(rt: &HostRuntime, asking: &[String]) -> u8 {
+    let mut files = Opening::new(RealFiles::new(rt));
+    let status = match run_files(rt, asking, &mut files) {
+        Ok(status) => status,
+        Err(AllocError) => 5,
+    };
+    explain(rt, status, last_opened(asking, files.count()));
+    status
+}
+
+fn main(rt: HostRuntime) -> ExitCode {
+    match words_of(&rt) {
+        Ok(asking) => ExitCode::from(run_words(&rt, &asking)),
+        Err(_) => {
+            explain(&rt, 5, None);
+            ExitCode::from(5)
+        }
+    }
 }

@@ -1,4 +1,0 @@
-pub mod Lines
-pub mod Shown
-pub mod Carrying
-pub mod Reporting
