@@ -1,5 +1,5 @@
 -- What the steps of a command give together.
-use Rattle.std.proofs.Common.{◌≡◌, ◌∙◌, ℕ, List, [], ◌∷◌, ◌++◌, Some, None, Result, Ok, Err, IfOk, refl, ap}
+use Rattle.std.proofs.Common.{◌≡◌, ◌∙◌, ℕ, List, [], ◌∷◌, ◌++◌, Some, None, Result, Ok, Err, IfOk, refl, ap, subst}
 use Rattle.fp_command.specs.declared.fault.CommandFault.{CommandFault}
 use Rattle.fp_term.specs.Terms.{Tm}
 use Rattle.fp_term.specs.Typing.{type_under}
@@ -13,6 +13,7 @@ use Rattle.fp_report.specs.declared.item.Item.{Item}
 use Rattle.fp_theory.specs.State.{State, found_theorem, with_theorem, IsNoted}
 use Rattle.fp_theory.specs.Defining.{def_name, abs_rep_name, rep_abs_name, named_taken, taken_by_definition, taken_by_type}
 use Rattle.fp_command.specs.Outcome.{stated, Elaborates, AcceptsDefinition, AcceptsType, AcceptsLemma, IsProved, AreProved}
+use Rattle.fp_lines.specs.Checks.{Checks}
 use Rattle.fp_command.specs.Answers.{ShowsDefinition, ShowsType, ShowsLemma}
 use Rattle.fp_command.proofs.Naming.{found_last, found_still, free_still, names_apart}
 
@@ -76,12 +77,14 @@ type_proved s t name abstract represent inhabited items d =
     )
 
 pub lemma_accepted : (s t : State) (name : List ℕ) (raw : RawTm) (lines : List Line) (statement : Tm) (items : List Item) → named_taken s name ≡ None →
-    Elaborates s raw (Ok statement) → type_under [] statement ≡ Some truth_type → ShowsLemma s t name (plain s.defs statement) items → AcceptsLemma s name raw lines items t
-lemma_accepted s t name raw lines statement items free typed formula d = record {
+    Elaborates s raw (Ok statement) → type_under [] statement ≡ Some truth_type → Checks s statement lines (Ok (plain s.defs statement)) → ShowsLemma s t name (plain s.defs statement) items →
+    AcceptsLemma s name raw lines items t
+lemma_accepted s t name raw lines statement items free typed formula proof d = record {
   statement = statement;
   free = free;
   typed = typed;
   formula = formula;
+  proof = proof;
   derived = d.derived;
   named = d.named;
   shown = d.shown;
@@ -113,9 +116,16 @@ type_proves s t name abstract represent inhabited (Ok items) d = type_proved s t
 type_proves s t name abstract represent inhabited (Err fault) d = tt
 
 pub lemma_accepts : (s t : State) (name : List ℕ) (raw : RawTm) (lines : List Line) (statement : Tm) (result : Result (List Item) CommandFault) → named_taken s name ≡ None →
-    Elaborates s raw (Ok statement) → type_under [] statement ≡ Some truth_type → IfOk result (ShowsLemma s t name (plain s.defs statement)) → IfOk result (λ items. AcceptsLemma s name raw lines items t)
-lemma_accepts s t name raw lines statement (Ok items) free typed formula d = lemma_accepted s t name raw lines statement items free typed formula d
-lemma_accepts s t name raw lines statement (Err fault) free typed formula d = tt
+    Elaborates s raw (Ok statement) → type_under [] statement ≡ Some truth_type → IfOk result (λ _. Checks s statement lines (Ok (plain s.defs statement))) →
+    IfOk result (ShowsLemma s t name (plain s.defs statement)) → IfOk result (λ items. AcceptsLemma s name raw lines items t)
+lemma_accepts s t name raw lines statement (Ok items) free typed formula proof d = lemma_accepted s t name raw lines statement items free typed formula proof d
+lemma_accepts s t name raw lines statement (Err fault) free typed formula proof d = tt
+
+-- the lines prove the theorem that is named
+pub lemma_checked : (s : State) (lines : List Line) (statement : Tm) (th : Theorem) (result : Result (List Item) CommandFault) → th ≡ plain s.defs statement →
+    Checks s statement lines (Ok th) → IfOk result (λ _. Checks s statement lines (Ok (plain s.defs statement)))
+lemma_checked s lines statement th (Ok items) e proof = subst (λ (u : Theorem). Checks s statement lines (Ok u)) e proof
+lemma_checked s lines statement th (Err fault) e proof = tt
 
 pub lemma_proves : (s t : State) (name : List ℕ) (statement : Tm) (result : Result (List Item) CommandFault) → IfOk result (ShowsLemma s t name (plain s.defs statement)) → IfOk result (AreProved t)
 lemma_proves s t name statement (Ok items) d = lemma_proved s t name statement items d

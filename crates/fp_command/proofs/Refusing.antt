@@ -11,7 +11,9 @@ use Rattle.fp_report.specs.declared.reason.Naming.TheVariants as naming
 use Rattle.fp_report.specs.declared.reason.Reason.TheVariants.{Of}
 use Rattle.fp_theory.specs.State.{State, found_theorem}
 use Rattle.fp_theory.specs.Defining.{named_taken, taken_by_definition, taken_by_type}
-use Rattle.fp_command.specs.Outcome.{Elaborates, FailsTerm, FailsDefinition, RefusesDefinition, FailsType, RefusesType, FailsFormula, FailsProof, RefusesLemma}
+use Rattle.fp_command.specs.Outcome.{Elaborates, FailsTerm, FailsDefinition, RefusesDefinition, FailsType, RefusesType, FailsFormula, FailsProof, ExplainsProof, RefusesLemma}
+use Rattle.fp_lines.specs.declared.fault.ProofFault.{ProofFault}
+use Rattle.fp_lines.specs.Checks.{Checks}
 use Rattle.fp_command.specs.Outcome as why
 use Rattle.fp_command.specs.Answers.{Shows, Leaves, IsRefusal, IsNoFormula, At, ShowsLemma}
 use Rattle.fp_command.specs.declared.fault.CommandFault.{CommandFault}
@@ -72,6 +74,11 @@ pub lemma_unproved : (s t : State) (begins : ℕ) (p : Tm) (lines : List Line) (
     IfErr result (Leaves s t (At begins (FailsProof s p lines)))
 lemma_unproved s t begins p lines (Ok items) e = tt
 lemma_unproved s t begins p lines (Err fault) e = rw e tt
+
+pub proof_refused : (s : State) (begins : ℕ) (p : Tm) (lines : List Line) (fault : ProofFault) (told : CommandFault) → Checks s p lines (Err fault) →
+    Shows (At begins (ExplainsProof fault)) told → Shows (At begins (FailsProof s p lines)) told
+proof_refused s begins p lines fault (Refused r) proof sh = ((sh.0.0, (fault, proof, sh.0.1)), sh.1)
+proof_refused s begins p lines fault NoMemory proof sh = tt
 
 pub lemma_taken : (s : State) (begins : ℕ) (name : List ℕ) (raw : RawTm) (lines : List Line) (n : List ℕ) (fault : CommandFault) → named_taken s name ≡ Some n → IsRefusal begins (Of naming.NameTaken n) fault →
     Leaves s s (RefusesLemma s begins name raw lines) fault

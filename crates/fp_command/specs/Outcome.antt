@@ -26,6 +26,7 @@ use Rattle.fp_lines.specs.declared.fault.ProofFault.{ProofFault}
 use Rattle.fp_lines.specs.declared.fault.ProofFault.TheVariants as proving
 use Rattle.fp_lines.specs.declared.cause.LineCause.{LineCause}
 use Rattle.fp_lines.specs.Causes as lines
+use Rattle.fp_lines.specs.Checks.{Checks}
 use Rattle.fp_commands.specs.declared.command.Body.{Body}
 use Rattle.fp_commands.specs.declared.command.Body.TheVariants as body
 use Rattle.fp_commands.specs.declared.command.Command.{Command}
@@ -130,6 +131,7 @@ pub record AcceptsLemma (s : State) (name : List ℕ) (raw : RawTm) (lines : Lis
   pub free : named_taken s name ≡ None
   pub typed : Elaborates s raw (Ok statement)
   pub formula : type_under [] statement ≡ Some truth_type
+  pub proof : Checks s statement lines (Ok (plain s.defs statement))
   pub derived : IsTheorem (plain s.defs statement)
   pub named : t ≡ with_theorem name (plain s.defs statement) s
   pub shown : items ≡ item.Theorem name (stated statement) ∷ []
@@ -152,7 +154,7 @@ pub data FailsFormula (s : State) (begins : ℕ) (raw : RawTm) : ℕ → Reason 
 
 -- the lines don't prove the statement
 abbrev pub FailsProof : State → Tm → List Line → Reason → Type 0
-FailsProof s statement lines reason = (fault : ProofFault) × ExplainsProof fault reason
+FailsProof s statement lines reason = (fault : ProofFault) × Checks s statement lines (Err fault) × ExplainsProof fault reason
 
 pub data RefusesLemma (s : State) (begins : ℕ) (name : List ℕ) (raw : RawTm) (lines : List Line) : ℕ → Reason → Type 0 where
   name_taken : (n : List ℕ) → named_taken s name ≡ Some n → RefusesLemma s begins name raw lines begins (Of naming.NameTaken n)

@@ -7,6 +7,7 @@ ghost use Rattle.fp_kernel.specs.Start.{signature_of};
 ghost use Rattle.fp_kernel.specs.Theorems.{IsTheorem, plain};
 ghost use Rattle.fp_kernel.specs.Definitions.{Within};
 ghost use Rattle.fp_kernel.specs.Conservative.{IsConservative};
+ghost use Rattle.fp_lines.specs.Checks.{Checks};
 ghost use Rattle.fp_report.specs.declared.item.Item.TheVariants as item;
 ghost use Rattle.fp_report.specs.Items.{AreShown};
 ghost use Rattle.fp_command.specs.Outcome.{stated, AcceptsLemma, RefusesLemma, FailsFormula, FailsProof, AreProved, Elaborates};
@@ -79,7 +80,7 @@ fn formula(alloc: Global, at: u32, theory: &Theory, raw: &Raw) -> Result<Term, C
 }
 
 // The theorem of the statement, which the lines prove.
-#[tactic(auto, using(crate::proofs::Sound::known_types, crate::proofs::Shown::ends_shown))]
+#[tactic(auto, using(crate::proofs::Sound::known_types, crate::proofs::Shown::ends_shown, crate::proofs::Refusing::proof_refused))]
 fn proved(
     alloc: Global,
     at: u32,
@@ -89,6 +90,7 @@ fn proved(
 ) -> Result<Thm, CommandFault>
     requires { IsOver (signature_of theory.now.defs) statement.now }
     ensures proved { IfOk result (λ th. th ≡ plain theory.now.defs statement.now) }
+    ensures checked { IfOk result (λ th. Checks theory.now statement.now lines.now (Ok th)) }
     ensures refused { IfErr result (Shows (At at (FailsProof theory.now statement.now lines.now))) }
 {
     match check_proof(alloc, theory, statement, lines) {
@@ -130,7 +132,7 @@ fn noted(
 }
 
 // Names and shows the theorem of the statement, which the lines prove.
-#[tactic(auto, using(crate::proofs::Refusing::lemma_named, crate::proofs::Refusing::lemma_unproved, crate::proofs::Accepting::plain_within))]
+#[tactic(auto, using(crate::proofs::Refusing::lemma_named, crate::proofs::Refusing::lemma_unproved, crate::proofs::Accepting::plain_within, crate::proofs::Accepting::lemma_checked))]
 fn stated_lemma(
     alloc: Global,
     at: u32,
@@ -141,6 +143,7 @@ fn stated_lemma(
 ) -> Result<Items<Item>, CommandFault>
     requires { IsOver (signature_of theory.old.defs) statement.now }
     ensures shows { IfOk result (ShowsLemma theory.old theory.new name.now (plain theory.old.defs statement.now)) }
+    ensures checked { IfOk result (λ _. Checks theory.old statement.now lines.now (Ok (plain theory.old.defs statement.now))) }
     ensures shown { IfOk result AreShown }
     ensures refused { IfErr result (Leaves theory.old theory.new (At at (FailsProof theory.old statement.now lines.now))) }
 {

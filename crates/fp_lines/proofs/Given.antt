@@ -1,9 +1,9 @@
 -- The free variables of a term that a written one stands for have types of the signature.
-use Rattle.std.proofs.Common.{◌≡◌, ℕ, ◌+◌, ◌<◌, ◌≤◌, Bool, true, false, cond, List, [], ◌∷◌, ◌++◌, refl, sym, subst, arith}
+use Rattle.std.proofs.Common.{◌≡◌, ℕ, ◌+◌, ◌<◌, ◌≤◌, Bool, true, false, cond, List, [], ◌∷◌, ◌++◌, sym, subst, arith}
 use Rattle.std.specs.Prelude.{Option, Some, None, is_some}
 use Rattle.fp_term.specs.Types.{Typ}
 use Rattle.fp_term.specs.Terms.{Tm, bound, free, constant, app, abs}
-use Rattle.fp_term.specs.Variables.{is_variable_among, with_variable, with_variables, variables_of}
+use Rattle.fp_term.specs.Variables.{is_variable_among, with_variables, variables_of}
 use Rattle.fp_term.specs.Signatures.{IsType}
 use Rattle.fp_term.specs.declared.signature.Signature.{Signature}
 use Rattle.fp_raw.specs.Raws.{RawTm, raw_name, raw_bound, raw_free, raw_constant, raw_app, raw_abs, raw_typed, raw_size}

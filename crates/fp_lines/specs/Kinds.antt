@@ -1,8 +1,8 @@
 -- The arguments of a line by their kinds.
-use Rattle.std.specs.Prelude.{◌&&◌, Bool, true, false, if◌then◌else◌, not, List, [], ◌∷◌, Option, Some, None, is_some}
+use Rattle.std.specs.Prelude.{ℕ, ◌&&◌, Bool, true, false, not, List, [], ◌∷◌, Option, Some, None, is_some}
 use Rattle.fp_term.specs.Types.{found_type}
 use Rattle.fp_term.specs.declared.signature.Signature.{Signature}
-use Rattle.fp_raw.specs.Raws.{RawTm, raw_name, raw_bound, raw_free, raw_constant, raw_app, raw_abs, raw_typed}
+use Rattle.fp_raw.specs.Raws.{RawTm, RawTyp, raw_name, raw_bound, raw_free, raw_constant, raw_app, raw_abs, raw_typed}
 use Rattle.fp_commands.specs.declared.command.Arg.{Arg}
 use Rattle.fp_commands.specs.declared.command.Arg.TheVariants.{Number, Name, TyVar, Term, Ty}
 
@@ -90,6 +90,30 @@ abbrev pub theorem_and_more : List Arg → Option (Arg × List Arg)
 theorem_and_more [] = None
 theorem_and_more (a ∷ []) = None
 theorem_and_more (a ∷ b ∷ rest) = both (theorem_in a) (Some (b ∷ rest))
+
+-- a type variable, and a type
+abbrev pub type_variable_in : Arg → Option (List ℕ)
+type_variable_in (Number n) = None
+type_variable_in (Name a) = None
+type_variable_in (TyVar a) = Some a
+type_variable_in (Term t) = None
+type_variable_in (Ty s) = None
+
+abbrev pub type_in : Arg → Option RawTyp
+type_in (Number n) = None
+type_in (Name a) = None
+type_in (TyVar a) = None
+type_in (Term t) = None
+type_in (Ty s) = Some s
+
+-- two terms, and a type variable and a type, with the arguments behind them
+abbrev pub terms_first : List Arg → Option (RawTm × RawTm × List Arg)
+terms_first (t ∷ u ∷ rest) = all_three (term_in t) (term_in u) (Some rest)
+terms_first _ = None
+
+abbrev pub types_first : List Arg → Option (List ℕ × RawTyp × List Arg)
+types_first (a ∷ s ∷ rest) = all_three (type_variable_in a) (type_in s) (Some rest)
+types_first _ = None
 
 -- variables, each with a term after it
 abbrev pub are_term_pairs : Signature → List Arg → Bool

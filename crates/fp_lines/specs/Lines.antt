@@ -1,5 +1,5 @@
 -- What comes of a line: kinds of its arguments, then theorems, then terms and types, then its rule.
-use Rattle.std.specs.Prelude.{◌≡◌, ℕ, true, false, if◌then◌else◌, Bool, List, [], ◌∷◌, Option, Some, None, Result, Ok, Err}
+use Rattle.std.specs.Prelude.{◌≡◌, ℕ, true, false, Bool, List, [], ◌∷◌, Option, Some, None, Ok, Err}
 use Rattle.fp_term.specs.Types.{Typ}
 use Rattle.fp_term.specs.Terms.{Tm}
 use Rattle.fp_raw.specs.Raws.{RawTm}
@@ -7,7 +7,7 @@ use Rattle.fp_kernel.specs.Theorems.{Theorem}
 use Rattle.fp_commands.specs.declared.command.Arg.{Arg}
 use Rattle.fp_lines.specs.declared.cause.LineCause.TheVariants.{BadArgs}
 use Rattle.fp_lines.specs.declared.fault.LineFault.{LineFault}
-use Rattle.fp_lines.specs.declared.fault.LineFault.TheVariants.{Bad, NoMemory}
+use Rattle.fp_lines.specs.declared.fault.LineFault.TheVariants.{Bad}
 use Rattle.fp_line_rules.specs.declared.rule.OfTerm.{OfTerm}
 use Rattle.fp_line_rules.specs.declared.rule.OfTheorem.{OfTheorem}
 use Rattle.fp_line_rules.specs.declared.rule.OfPair.{OfPair}
@@ -127,5 +127,5 @@ LineBy s (rule.Variable k) args r = LineOfVariable s k args r
 LineBy s rule.Exists args r = LineOfExistence s args r
 LineBy s rule.Choose args r = LineOfChoice s args r
 LineBy s rule.Cases args r = LineOfCases s args r
-LineBy s rule.Inst args r = Unit {0}
-LineBy s rule.InstTy args r = Unit {0}
+LineBy s rule.Inst args r = LineOfInstance s args r
+LineBy s rule.InstTy args r = LineOfTypeInstance s args r

@@ -133,3 +133,9 @@ abbrev pub types_read : Signature → List Arg → Types → Result Types LineFa
 types_read signature [] old = Ok old
 types_read signature (TyVar a ∷ Ty s ∷ rest) old = with_type (type_read signature s) (λ t. types_read signature rest (old ++ (a, t) ∷ []))
 types_read signature _ old = Err (Bad BadArgs)
+
+-- they are these, or the first that stands for nothing, or memory is wanting
+abbrev pub TypesRead : Result Types LineFault → Types → Result (Unit {0}) LineFault → Type 0
+TypesRead expected pairs (Ok u) = expected ≡ Ok pairs
+TypesRead expected pairs (Err (Bad cause)) = expected ≡ Err (Bad cause)
+TypesRead expected pairs (Err NoMemory) = Unit {0}

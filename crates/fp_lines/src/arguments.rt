@@ -1,11 +1,11 @@
 //! The arguments of a line by their kinds.
 ghost use Rattle.std.specs.Prelude.{◌≡◌, Some, None, MatchOption};
 ghost use Rattle.std.specs.Option.{option_copied};
-ghost use Rattle.fp_lines.specs.Kinds.{theorem_in, term_in, is_variable, variable_in, theorem_alone, term_alone, two_theorems, term_and_theorem, theorem_and_term, variable_and_theorem, two_terms_and_theorem, variable_and_two_theorems, three_theorems, theorem_and_more};
+ghost use Rattle.fp_lines.specs.Kinds.{theorem_in, term_in, is_variable, variable_in, theorem_alone, term_alone, two_theorems, term_and_theorem, theorem_and_term, variable_and_theorem, two_terms_and_theorem, variable_and_two_theorems, three_theorems, theorem_and_more, type_variable_in, type_in, terms_first, types_first};
 
 use fp_commands::Arg;
-use fp_raw::{Raw, RawNode};
-use fp_term::Signature;
+use fp_raw::{Raw, RawNode, RawType};
+use fp_term::{Name, Signature};
 
 /// The argument, where it is a theorem: the number of a line, or a name.
 pub(crate) fn theorem_in(arg: &Arg) -> Option<&Arg>
@@ -156,5 +156,47 @@ pub(crate) fn theorem_and_more(args: &[Arg]) -> Option<(&Arg, &[Arg])>
         [] => None,
         [_] => None,
         [a, rest @ ..] => Some((theorem_in(a)?, rest)),
+    }
+}
+
+// The name, where the argument is a type variable.
+fn type_variable_in(arg: &Arg) -> Option<&Name>
+    ensures { option_copied result ≡ type_variable_in arg.now }
+{
+    match arg {
+        Arg::TyVar(name) => Some(name),
+        _ => None,
+    }
+}
+
+// The type, where the argument is one.
+fn type_in(arg: &Arg) -> Option<&RawType>
+    ensures { option_copied result ≡ type_in arg.now }
+{
+    match arg {
+        Arg::Ty(ty) => Some(ty),
+        _ => None,
+    }
+}
+
+/// Two terms, and what is behind them.
+pub(crate) fn terms_first(args: &[Arg]) -> Option<(&Raw, &Raw, &[Arg])>
+    ensures { MatchOption result (terms_first args.now ≡ None) (λ p. terms_first args.now ≡ Some (p.0.now, p.1.now, p.2.now)) }
+{
+    match args {
+        [] => None,
+        [_] => None,
+        [t, u, rest @ ..] => Some((term_in(t)?, term_in(u)?, rest)),
+    }
+}
+
+/// A type variable and a type, and what is behind them.
+pub(crate) fn types_first(args: &[Arg]) -> Option<(&Name, &RawType, &[Arg])>
+    ensures { MatchOption result (types_first args.now ≡ None) (λ p. types_first args.now ≡ Some (p.0.now, p.1.now, p.2.now)) }
+{
+    match args {
+        [] => None,
+        [_] => None,
+        [a, ty, rest @ ..] => Some((type_variable_in(a)?, type_in(ty)?, rest)),
     }
 }

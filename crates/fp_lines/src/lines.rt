@@ -1,10 +1,11 @@
 //! What a line gives.
-ghost use Rattle.std.specs.Prelude.{◌≡◌, [], IfOk};
+ghost use Rattle.std.specs.Prelude.{◌≡◌, [], true, IfOk};
 ghost use Rattle.fp_kernel.specs.Start.{signature_of};
 ghost use Rattle.fp_infer.specs.Elaborated.{IsSound};
 ghost use Rattle.fp_line_rules.specs.Standing.{IsUsable, IsLine, AreLines};
 ghost use Rattle.fp_lines.specs.Read.{scene_of};
-ghost use Rattle.fp_lines.specs.Lines.{LineOfNothing, LineOfTerm, LineOfTheorem, LineOfPair, LineBeforeTheorem, LineBeforeTerm, LineOfVariable, ExistenceOf, LineOfExistence, ChoiceOf, LineOfChoice, LineOfCases, LineBy};
+ghost use Rattle.fp_lines.specs.Lines.{LineOfNothing, LineOfTerm, LineOfTheorem, LineOfPair, LineBeforeTheorem, LineBeforeTerm, LineOfVariable, ExistenceOf, LineOfExistence, ChoiceOf, LineOfChoice, LineOfCases, InstanceOf, LineOfInstance, TypeInstanceOf, LineOfTypeInstance, LineBy};
+ghost use Rattle.fp_lines.specs.Kinds.{are_term_pairs, are_type_pairs};
 
 use crate::arguments::{
     term_alone, term_and_theorem, theorem_alone, theorem_and_more, theorem_and_term,
@@ -216,6 +217,8 @@ fn line_of_cases(alloc: Global, setting: &Setting<'_>, args: &[Arg]) -> Result<T
 fn instance(alloc: Global, setting: &Setting<'_>, a: &Thm, args: &[Arg]) -> Result<Thm, LineFault>
     requires a { IsUsable setting.now.defs.now a.now }
     requires sound { IsSound (signature_of setting.now.defs.now) [] setting.now.given.now }
+    requires kinds { are_term_pairs (signature_of setting.now.defs.now) args.now ≡ true }
+    ensures exact { InstanceOf (scene_of setting.now) args.now a.now result }
     ensures line { IfOk result (IsLine setting.now.defs.now) }
 {
     let mut pairs = Vec::new(alloc);
@@ -231,6 +234,8 @@ fn type_instance(
     args: &[Arg],
 ) -> Result<Thm, LineFault>
     requires a { IsUsable setting.now.defs.now a.now }
+    requires kinds { are_type_pairs args.now ≡ true }
+    ensures exact { TypeInstanceOf (scene_of setting.now) args.now a.now result }
     ensures line { IfOk result (IsLine setting.now.defs.now) }
 {
     let mut pairs = Vec::new(alloc);
@@ -242,6 +247,7 @@ fn line_of_instance(alloc: Global, setting: &Setting<'_>, args: &[Arg]) -> Resul
     requires same { setting.now.defs.now ≡ setting.now.theory.now.defs }
     requires lines { AreLines setting.now.defs.now setting.now.before.now }
     requires sound { IsSound (signature_of setting.now.defs.now) [] setting.now.given.now }
+    ensures exact { LineOfInstance (scene_of setting.now) args.now result }
     ensures line { IfOk result (IsLine setting.now.defs.now) }
 {
     let Some((a, rest)) = theorem_and_more(args) else {
@@ -261,6 +267,7 @@ fn line_of_type_instance(
 ) -> Result<Thm, LineFault>
     requires same { setting.now.defs.now ≡ setting.now.theory.now.defs }
     requires lines { AreLines setting.now.defs.now setting.now.before.now }
+    ensures exact { LineOfTypeInstance (scene_of setting.now) args.now result }
     ensures line { IfOk result (IsLine setting.now.defs.now) }
 {
     let Some((a, rest)) = theorem_and_more(args) else {

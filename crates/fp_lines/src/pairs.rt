@@ -1,11 +1,11 @@
 //! Variables with the terms, and type variables with the types, that come in their places.
-ghost use Rattle.std.specs.Prelude.{◌≡◌, [], ◌∷◌, ◌++◌, IfOk};
+ghost use Rattle.std.specs.Prelude.{◌≡◌, [], ◌∷◌, ◌++◌, true, IfOk, IfErr};
 ghost use Rattle.fp_kernel.specs.Start.{signature_of};
 ghost use Rattle.fp_infer.specs.Elaborated.{IsSound};
-ghost use Rattle.fp_lines.specs.Read.{paired};
+ghost use Rattle.fp_lines.specs.Kinds.{are_term_pairs, are_type_pairs};
+ghost use Rattle.fp_lines.specs.Read.{scene_of, paired, OnePair, OneUnread, ReadsPairs, UnreadPairs, types_read, TypesRead};
 
-use crate::arguments::{term_in, variable_in};
-use crate::cause::LineCause;
+use crate::arguments::{term_in, terms_first, types_first, variable_in};
 use crate::fault::LineFault;
 use crate::reading::{Setting, term_of, type_of};
 use fp_commands::Arg;
@@ -14,7 +14,9 @@ use fp_term::{Name, Node, Signature, Term, Ty};
 use std::alloc::{AllocError, Global};
 
 /// Are they variables, each with a term after it?
-pub(crate) fn are_term_pairs(signature: &Signature, args: &[Arg]) -> bool {
+pub(crate) fn are_term_pairs(signature: &Signature, args: &[Arg]) -> bool
+    ensures { result ≡ are_term_pairs signature.now args.now }
+{
     match args {
         [] => true,
         [x, t, rest @ ..] => {
@@ -27,7 +29,9 @@ pub(crate) fn are_term_pairs(signature: &Signature, args: &[Arg]) -> bool {
 }
 
 /// Are they type variables, each with a type after it?
-pub(crate) fn are_type_pairs(args: &[Arg]) -> bool {
+pub(crate) fn are_type_pairs(args: &[Arg]) -> bool
+    ensures { result ≡ are_type_pairs args.now }
+{
     match args {
         [] => true,
         [Arg::TyVar(_), Arg::Ty(_), rest @ ..] => are_type_pairs(rest),
@@ -59,6 +63,8 @@ fn push_terms(
     term: &Raw,
 ) -> Result<(), LineFault>
     requires { IsSound (signature_of setting.now.defs.now) [] setting.now.given.now }
+    ensures pair { IfOk result (λ _. OnePair (scene_of setting.now) variable.now term.now pairs.old.items pairs.new.items) }
+    ensures refused { IfErr result (OneUnread (scene_of setting.now) variable.now term.now) }
 {
     let variable = term_of(alloc, setting, variable)?;
     let term = term_of(alloc, setting, term)?;
@@ -67,22 +73,23 @@ fn push_terms(
 }
 
 /// Puts the variables with their terms at the end of the list.
+#[tactic(auto, using(crate::proofs::Paired::pairs_none, crate::proofs::Paired::pairs_behind, crate::proofs::Paired::pair_refused, crate::proofs::Paired::pairs_refused, crate::proofs::Paired::term_kinds_behind, crate::proofs::Paired::terms_shorter))]
 pub(crate) fn push_term_pairs(
     alloc: Global,
     setting: &Setting<'_>,
     pairs: &mut Vec<(Name, Ty, Term)>,
     args: &[Arg],
 ) -> Result<(), LineFault>
-    requires { IsSound (signature_of setting.now.defs.now) [] setting.now.given.now }
+    requires sound { IsSound (signature_of setting.now.defs.now) [] setting.now.given.now }
+    requires kinds { are_term_pairs (signature_of setting.now.defs.now) args.now ≡ true }
+    ensures pairs { IfOk result (λ _. ReadsPairs (scene_of setting.now) args.now pairs.old.items pairs.new.items) }
+    ensures refused { IfErr result (UnreadPairs (scene_of setting.now) args.now) }
 {
-    match args {
-        [] => Ok(()),
-        [Arg::Term(variable), Arg::Term(term), rest @ ..] => {
-            push_terms(alloc, setting, pairs, variable, term)?;
-            push_term_pairs(alloc, setting, pairs, rest)
-        }
-        _ => Err(LineFault::Bad(LineCause::BadArgs)),
-    }
+    let Some((variable, term, rest)) = terms_first(args) else {
+        return Ok(());
+    };
+    push_terms(alloc, setting, pairs, variable, term)?;
+    push_term_pairs(alloc, setting, pairs, rest)
 }
 
 fn push_type(pairs: &mut Vec<(Name, Ty)>, name: &Name, ty: Ty) -> Result<(), AllocError>
@@ -93,19 +100,20 @@ fn push_type(pairs: &mut Vec<(Name, Ty)>, name: &Name, ty: Ty) -> Result<(), All
 }
 
 /// Puts the type variables with their types at the end of the list.
+#[tactic(auto, using(crate::proofs::Paired::types_none, crate::proofs::Paired::types_behind, crate::proofs::Paired::type_refused, crate::proofs::Paired::type_kinds_behind, crate::proofs::Paired::types_shorter))]
 pub(crate) fn push_type_pairs(
     alloc: Global,
     signature: &Signature,
     pairs: &mut Vec<(Name, Ty)>,
     args: &[Arg],
-) -> Result<(), LineFault> {
-    match args {
-        [] => Ok(()),
-        [Arg::TyVar(name), Arg::Ty(ty), rest @ ..] => {
-            let ty = type_of(alloc, signature, ty)?;
-            push_type(pairs, name, ty)?;
-            push_type_pairs(alloc, signature, pairs, rest)
-        }
-        _ => Err(LineFault::Bad(LineCause::BadArgs)),
-    }
+) -> Result<(), LineFault>
+    requires { are_type_pairs args.now ≡ true }
+    ensures { TypesRead (types_read signature.now args.now pairs.old.items) pairs.new.items result }
+{
+    let Some((name, ty, rest)) = types_first(args) else {
+        return Ok(());
+    };
+    let ty = type_of(alloc, signature, ty)?;
+    push_type(pairs, name, ty)?;
+    push_type_pairs(alloc, signature, pairs, rest)
 }

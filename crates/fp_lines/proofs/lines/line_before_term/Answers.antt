@@ -1,4 +1,3 @@
-use Rattle.std.proofs.Common.{◌∙◌, refl, sym}
 use Rattle.std.proofs.lemmas.Result.{err_from_is_err_and}
 use Rattle.fp_lines.specs.Lines.{unread, read}
 use Rattle.fp_lines.proofs.lines.line_before_term.Goals as goal
