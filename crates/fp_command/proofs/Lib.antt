@@ -11,3 +11,4 @@ pub mod Refusing
 pub mod Ruling
 pub mod Constructing
 pub mod Measuring
+pub mod Grouping

@@ -7,7 +7,7 @@ use Rattle.fp_conclude.specs.Logic.{truth_type}
 use Rattle.fp_kernel.specs.Derivability.{IsFormula, AreFormulas}
 use Rattle.fp_print.specs.Numbers.{HasOnly, AllHaveOnly}
 use Rattle.fp_print.proofs.Loose.{typed_has_only}
-use Rattle.fp_report.specs.Items.{IsShownStatement}
+use Rattle.fp_report.specs.Texts.{IsShownStatement}
 use Rattle.fp_lines.specs.declared.fault.ProofFault.{ProofFault}
 use Rattle.fp_lines.specs.declared.fault.ProofFault.TheVariants.{BadRuleName, BadLine, WrongEnd, NoMemory}
 use Rattle.fp_kernel.specs.Definitions.{Def}

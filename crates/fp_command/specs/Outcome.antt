@@ -48,6 +48,9 @@ use Rattle.fp_measure.specs.declared.source.DeclKind.{DeclKind}
 use Rattle.fp_measure.specs.declared.source.DeclKind.TheVariants as declared
 use Rattle.fp_measure.specs.declared.source.Decl.{Decl}
 use Rattle.fp_sources.specs.Sources.{Source, told_each}
+use Rattle.fp_outcome.specs.declared.fault.FunFault.{FunFault}
+use Rattle.fp_group_report.specs.Refusals.{Explains}
+use Rattle.fp_fun.specs.Named as groups
 use Rattle.fp_theory.specs.State.{State, found_theorem, with_theorem, with_simp, with_cong, with_type, IsNoted, IsRewriteRule, IsCongRule}
 use Rattle.fp_theory.specs.Declaring.{IsNoRewriteRule, IsNoCongRule}
 use Rattle.fp_theory.specs.Defining.{def_name, abs_rep_name, rep_abs_name, named_taken, taken_by_definition, taken_by_type, defining_in, DefinesIn, defining_type_in, DefinesTypeIn}
@@ -276,6 +279,16 @@ pub data RefusesMeasure (s : State) (begins : ℕ) (written : RawTyp) (raw : Raw
   unfit : (t : Tm) → AreNamed s written raw → Measures s (plain_type written) raw (Ok t) → is_fit (plain_type written) t ≡ false →
       RefusesMeasure s begins written raw begins (Plain kind.NotMeasure)
 
+-- Groups of functions.
+
+-- what is shown are theorems that the theory names, and an order; the sources are as before
+abbrev pub AcceptsGroup : Session → List Item → Session → Type 0
+AcceptsGroup s items t = groups.AreNamed t.theory items × (t.sources ≡ s.sources)
+
+-- some fault of a group
+abbrev pub RefusesGroup : ℕ → Reason → Type 0
+RefusesGroup at reason = (fault : FunFault) × Explains fault (record { at = at; reason = reason })
+
 -- Commands.
 
 -- a statement that is printed is a named theorem, derivable from definitions that are conservative, without hypotheses and promises
@@ -296,6 +309,7 @@ IsProvedItem t (item.Cong name) = Unit {0}
 IsProvedItem t (item.Constructors name names) = Unit {0}
 IsProvedItem t (item.Size type m) = Unit {0}
 IsProvedItem t (item.Measure type m) = Unit {0}
+IsProvedItem t (item.Order names parts) = Unit {0}
 
 abbrev pub AreProved : State → List Item → Type 0
 AreProved t [] = Unit {0}
@@ -310,8 +324,8 @@ AcceptsBody s (body.Cong name) items t = AcceptsCong s.theory name items t.theor
 AcceptsBody s (body.Constructors name cons) items t = AcceptsConstructors s.theory (con_type name cons) items t.theory × (t.sources ≡ s.sources)
 AcceptsBody s (body.Size written raw) items t = AcceptsMeasure declared.Size s written raw items t
 AcceptsBody s (body.Measure written raw) items t = AcceptsMeasure declared.Measure s written raw items t
-AcceptsBody s (body.Fun heads clauses) items t = ⊥
-AcceptsBody s (body.Function heads clauses) items t = ⊥
+AcceptsBody s (body.Fun heads clauses) items t = AcceptsGroup s items t
+AcceptsBody s (body.Function heads clauses) items t = AcceptsGroup s items t
 
 -- the command is accepted, shows these items, and makes the one state the other
 pub record Accepts (s : Session) (c : Command) (items : List Item) (t : Session) : Type 0 where
@@ -327,8 +341,8 @@ RefusesBody s begins (body.Cong name) at reason = (at ≡ begins) × RefusesCong
 RefusesBody s begins (body.Constructors name cons) at reason = (at ≡ begins) × RefusesConstructors s (con_type name cons) reason
 RefusesBody s begins (body.Size written raw) at reason = RefusesMeasure s begins written raw at reason
 RefusesBody s begins (body.Measure written raw) at reason = RefusesMeasure s begins written raw at reason
-RefusesBody s begins (body.Fun heads clauses) at reason = (at ≡ begins) × (reason ≡ Plain kind.NotBuilt)
-RefusesBody s begins (body.Function heads clauses) at reason = (at ≡ begins) × (reason ≡ Plain kind.NotBuilt)
+RefusesBody s begins (body.Fun heads clauses) at reason = RefusesGroup at reason
+RefusesBody s begins (body.Function heads clauses) at reason = RefusesGroup at reason
 
 -- the command is refused, at the place
 pub record Refuses (s : State) (c : Command) (at : ℕ) (reason : Reason) : Type 0 where

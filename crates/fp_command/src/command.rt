@@ -7,13 +7,14 @@ ghost use Rattle.fp_command.specs.Answers.{Leaves};
 
 use crate::constructors::constructors;
 use crate::definition::definition;
-use crate::fault::{CommandFault, refused};
+use crate::fault::CommandFault;
+use crate::group::{fun, function};
 use crate::lemma::lemma;
 use crate::measure::measure;
 use crate::rules::{cong, simp};
 use crate::typedef::{TypeNames, typedef};
 use fp_measure::{DeclKind, MeasureSource};
-use fp_report::{Item, Kind};
+use fp_report::Item;
 use fp_syntax::{Body, Command};
 use fp_term::Items;
 use fp_theory::Theory;
@@ -67,6 +68,20 @@ pub(crate) fn carry_out(
             theory,
             sources,
         ),
-        Body::Fun { .. } | Body::Function { .. } => Err(refused(at, Kind::NotBuilt)),
+        Body::Function { heads, clauses } => function(
+            alloc,
+            at,
+            heads.as_slice(),
+            clauses.as_slice(),
+            theory,
+        ),
+        Body::Fun { heads, clauses } => fun(
+            alloc,
+            at,
+            heads.as_slice(),
+            clauses.as_slice(),
+            theory,
+            &*sources,
+        ),
     }
 }

@@ -5,6 +5,7 @@ mod command;
 mod constructors;
 mod definition;
 mod fault;
+mod group;
 mod lemma;
 mod measure;
 mod names;

@@ -2,7 +2,7 @@
 ghost use Rattle.std.specs.Prelude.{◌≡◌, [], ◌∷◌, IfOk};
 ghost use Rattle.fp_kernel.specs.Theorems.{IsTheorem};
 ghost use Rattle.fp_kernel.specs.Conservative.{IsConservative};
-ghost use Rattle.fp_report.specs.Items.{IsShownStatement};
+ghost use Rattle.fp_report.specs.Texts.{IsShownStatement};
 ghost use Rattle.fp_command.specs.Outcome.{stated};
 
 use fp_kernel::Thm;

@@ -80,7 +80,9 @@ pub(crate) fn matrix_of(
     left: &[(Cell, Entry)],
 ) -> Result<Matrix, AllocError>
     requires { ListsHaveOnly measures }
-    ensures { IfOk result IsShownMatrix }
+    ensures shown { IfOk result IsShownMatrix }
+    ensures functions { IfOk result (λ m. m.functions ≡ functions) }
+    ensures measures { IfOk result (λ m. m.measures ≡ measures) }
 {
     let order = parts_of(alloc, measures.as_slice(), found)?;
     let rows = rows_of(alloc, functions.as_slice(), rows, found.decided.as_slice(), left)?;
