@@ -1,4 +1,6 @@
 // The program's run over files and a sink in memory.
+ghost use Rattle.std.specs.Prelude.{◌<◌, ◌-◌, ◌^◌};
+
 use fp_measure::{DeclaredSource, MeasureSource, SizeSource};
 use fp_outside::{MemFiles, MemSink};
 use fp_run::run;
@@ -28,7 +30,10 @@ fn run_files(
     words: &[String],
     files: &mut MemFiles,
     sink: &mut MemSink,
-) -> Result<u8, AllocError> {
+) -> Result<u8, AllocError>
+    requires files { files.old.failures < 2 ^ 64 - 1 }
+    requires sink { sink.old.failures < 2 ^ 64 - 1 }
+{
     let mut theory = Theory::new(alloc)?;
     let mut sources: Vec<Box<dyn MeasureSource + Send + Sync>> = Vec::new(alloc);
     sources.push(Box::new(alloc, SizeSource::new(alloc))?)?;
