@@ -288,7 +288,7 @@ fn refused_commands(rt: HostRuntime) -> Result<(), Fail> {
         (b"size [bool] \"%x. x\"", b"refused a.hol at 14: Clash\n"),
         (
             b"fun f :: \"bool\" where \"f\"",
-            b"refused a.hol at 0: NotBuilt\n",
+            b"refused a.hol at 0: NotClause 1\n",
         ),
     ];
     for (bytes, line) in rows {
@@ -496,7 +496,7 @@ fn several_files(rt: HostRuntime) -> Result<(), Fail> {
         (
             &["run", "c.hol", "missing.hol"],
             1,
-            b"refused c.hol at 0: NotBuilt\n",
+            b"refused c.hol at 0: NotClause 1\n",
         ),
         (
             &["run", "a.hol", "missing.hol"],
