@@ -24,4 +24,3 @@ has_measure measures function number own terms e is k =
 
 pub same_measure : (measures : List (List Tm)) (function number : ℕ) (own terms : List Tm) (t : Tm) → slice_get measures function ≡ Some own → terms ≡ own → slice_get terms number ≡ Some t → measure_at measures function number ≡ Some t
 same_measure measures function number own terms t e is f = rw e (rw is at f)
-

@@ -175,6 +175,11 @@ pub fn goals_of(
         return Ok(None);
     }
     let left = measured(alloc, target, callee.args.as_slice(), site.args.as_slice())?;
-    let right = measured(alloc, source, caller.args.as_slice(), clause.patterns.as_slice())?;
+    let right = measured(
+        alloc,
+        source,
+        caller.args.as_slice(),
+        clause.patterns.as_slice(),
+    )?;
     Ok(Some(asked(alloc, site.guards.as_slice(), &left, &right)?))
 }

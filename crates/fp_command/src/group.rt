@@ -3,7 +3,7 @@ ghost use Rattle.std.specs.Prelude.{IfOk, IfErr};
 ghost use Rattle.fp_outcome.specs.Shown.{IsShownFault};
 ghost use Rattle.fp_report.specs.Items.{AreShown};
 ghost use Rattle.fp_fun.specs.Named as groups;
-ghost use Rattle.fp_command.specs.Outcome.{RefusesGroup};
+ghost use Rattle.fp_command.specs.Outcome.{AreProved, RefusesGroup};
 ghost use Rattle.fp_command.specs.Answers.{Leaves, Shows};
 
 use crate::fault::CommandFault;
@@ -19,6 +19,7 @@ use fp_theory::Theory;
 use std::alloc::Global;
 
 // The refusal of a group for that fault.
+#[tactic(auto, using(crate::proofs::Grouping::explained))]
 fn of_group(alloc: Global, fault: FunFault) -> CommandFault
     requires { IsShownFault fault }
     ensures { Shows RefusesGroup result }
@@ -30,7 +31,7 @@ fn of_group(alloc: Global, fault: FunFault) -> CommandFault
 }
 
 /// Defines the functions by description, and proves their partial rules.
-#[tactic(auto, using(crate::proofs::Grouping::left, fp_fun::proofs::Stating::all_shown))]
+#[tactic(auto, using(crate::proofs::Grouping::left))]
 pub(crate) fn function(
     alloc: Global,
     at: u32,
@@ -39,6 +40,7 @@ pub(crate) fn function(
     theory: &mut Theory,
 ) -> Result<Items<Item>, CommandFault>
     ensures items { IfOk result (groups.AreNamed theory.new) }
+    ensures proved { IfOk result (AreProved theory.new) }
     ensures shown { IfOk result AreShown }
     ensures refused { IfErr result (Leaves theory.old theory.new RefusesGroup) }
 {
@@ -54,7 +56,7 @@ pub(crate) fn function(
 }
 
 /// Defines the functions by description, proves that they end, and proves their rules.
-#[tactic(auto, using(crate::proofs::Grouping::left, fp_fun::proofs::Stating::all_shown))]
+#[tactic(auto, using(crate::proofs::Grouping::left))]
 pub(crate) fn fun(
     alloc: Global,
     at: u32,
@@ -64,6 +66,7 @@ pub(crate) fn fun(
     sources: &[Box<dyn MeasureSource + Send + Sync>],
 ) -> Result<Items<Item>, CommandFault>
     ensures items { IfOk result (groups.AreNamed theory.new) }
+    ensures proved { IfOk result (AreProved theory.new) }
     ensures shown { IfOk result AreShown }
     ensures refused { IfErr result (Leaves theory.old theory.new RefusesGroup) }
 {

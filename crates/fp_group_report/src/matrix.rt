@@ -85,7 +85,13 @@ pub(crate) fn matrix_of(
     ensures measures { IfOk result (λ m. m.measures ≡ measures) }
 {
     let order = parts_of(alloc, measures.as_slice(), found)?;
-    let rows = rows_of(alloc, functions.as_slice(), rows, found.decided.as_slice(), left)?;
+    let rows = rows_of(
+        alloc,
+        functions.as_slice(),
+        rows,
+        found.decided.as_slice(),
+        left,
+    )?;
     Ok(Matrix {
         functions,
         measures,

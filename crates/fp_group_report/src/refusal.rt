@@ -32,14 +32,38 @@ pub fn refusal_of(alloc: Global, fault: FunFault) -> Result<Refusal, AllocError>
         FunFault::Clash { at } => Ok(told(at, Reason::Plain(Kind::Clash))),
         FunFault::TypeTooLarge { at } => Ok(told(at, Reason::Plain(Kind::TypeTooLarge))),
         FunFault::TooManyFunctions { at } => Ok(told(at, Reason::Plain(Kind::TooManyFunctions))),
-        FunFault::NotClause { at, clause } => Ok(told(at, Reason::InClause(Clausal::NotClause, clause))),
-        FunFault::ArityDiffers { at, clause } => Ok(told(at, Reason::InClause(Clausal::ArityDiffers, clause))),
-        FunFault::TooManyArguments { at, clause } => Ok(told(at, Reason::InClause(Clausal::TooManyArguments, clause))),
-        FunFault::Redundant { at, clause } => Ok(told(at, Reason::InClause(Clausal::Redundant, clause))),
-        FunFault::TooManyClauses { at, clause } => Ok(told(at, Reason::InClause(Clausal::TooManyClauses, clause))),
-        FunFault::PartialCall { at, clause } => Ok(told(at, Reason::InClause(Clausal::PartialCall, clause))),
-        FunFault::NotBound { at, clause, name } => Ok(told(at, Reason::OfVariable(Variable::NotBound, clause, name))),
-        FunFault::NonLinear { at, clause, name } => Ok(told(at, Reason::OfVariable(Variable::NonLinear, clause, name))),
+        FunFault::NotClause { at, clause } => Ok(told(
+            at,
+            Reason::InClause(Clausal::NotClause, clause),
+        )),
+        FunFault::ArityDiffers { at, clause } => Ok(told(
+            at,
+            Reason::InClause(Clausal::ArityDiffers, clause),
+        )),
+        FunFault::TooManyArguments { at, clause } => Ok(told(
+            at,
+            Reason::InClause(Clausal::TooManyArguments, clause),
+        )),
+        FunFault::Redundant { at, clause } => Ok(told(
+            at,
+            Reason::InClause(Clausal::Redundant, clause),
+        )),
+        FunFault::TooManyClauses { at, clause } => Ok(told(
+            at,
+            Reason::InClause(Clausal::TooManyClauses, clause),
+        )),
+        FunFault::PartialCall { at, clause } => Ok(told(
+            at,
+            Reason::InClause(Clausal::PartialCall, clause),
+        )),
+        FunFault::NotBound { at, clause, name } => Ok(told(
+            at,
+            Reason::OfVariable(Variable::NotBound, clause, name),
+        )),
+        FunFault::NonLinear { at, clause, name } => Ok(told(
+            at,
+            Reason::OfVariable(Variable::NonLinear, clause, name),
+        )),
         FunFault::NotPattern {
             at,
             clause,
