@@ -17,7 +17,7 @@ Explains (fault.NameTaken at name) r = r ≡ record { at = at; reason = Of namin
 Explains (fault.UnknownName at name) r = r ≡ record { at = at; reason = Of naming.UnknownName name }
 Explains (fault.BadArity at name) r = r ≡ record { at = at; reason = Of naming.BadArity name }
 Explains (fault.NoClause at name) r = r ≡ record { at = at; reason = Of naming.NoClause name }
-Explains (fault.HiddenType at name) r = r ≡ record { at = at; reason = Of naming.HiddenType name }
+Explains (fault.HiddenType at name) r = r ≡ record { at = at; reason = Of naming.HidingFunction name }
 Explains (fault.LacksLemma at name) r = r ≡ record { at = at; reason = Of naming.LacksLemma name }
 Explains (fault.NotProved at name) r = r ≡ record { at = at; reason = Of naming.NotProved name }
 Explains (fault.Clash at) r = r ≡ record { at = at; reason = Plain kind.Clash }

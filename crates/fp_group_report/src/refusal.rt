@@ -26,7 +26,7 @@ pub fn refusal_of(alloc: Global, fault: FunFault) -> Result<Refusal, AllocError>
         FunFault::UnknownName { at, name } => Ok(told(at, Reason::Of(Naming::UnknownName, name))),
         FunFault::BadArity { at, name } => Ok(told(at, Reason::Of(Naming::BadArity, name))),
         FunFault::NoClause { at, name } => Ok(told(at, Reason::Of(Naming::NoClause, name))),
-        FunFault::HiddenType { at, name } => Ok(told(at, Reason::Of(Naming::HiddenType, name))),
+        FunFault::HiddenType { at, name } => Ok(told(at, Reason::Of(Naming::HidingFunction, name))),
         FunFault::LacksLemma { at, name } => Ok(told(at, Reason::Of(Naming::LacksLemma, name))),
         FunFault::NotProved { at, name } => Ok(told(at, Reason::Of(Naming::NotProved, name))),
         FunFault::Clash { at } => Ok(told(at, Reason::Plain(Kind::Clash))),

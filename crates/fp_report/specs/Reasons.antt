@@ -47,6 +47,7 @@ naming_text naming.NotConstructor = codes "NotConstructor "
 naming_text naming.LacksLemma = codes "LacksLemma "
 naming_text naming.NoClause = codes "NoClause "
 naming_text naming.NotProved = codes "NotProved "
+naming_text naming.HidingFunction = codes "HiddenType "
 
 abbrev pub cause_text : Cause → List ℕ
 cause_text cause.BadArgs = codes "BadArgs"

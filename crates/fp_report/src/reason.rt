@@ -37,6 +37,8 @@ pub enum Naming {
     LacksLemma,
     NoClause,
     NotProved,
+    /// The function whose type hides a type variable.
+    HidingFunction,
 }
 
 /// Why a proof line is refused.

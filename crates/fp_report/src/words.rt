@@ -43,6 +43,7 @@ pub(crate) fn naming_text(naming: Naming) -> &'static [u8]
         Naming::LacksLemma => b"LacksLemma ",
         Naming::NoClause => b"NoClause ",
         Naming::NotProved => b"NotProved ",
+        Naming::HidingFunction => b"HiddenType ",
     }
 }
 
