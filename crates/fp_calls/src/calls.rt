@@ -1,4 +1,4 @@
-// Derived forms called on texts.
+//! Derived forms called on texts.
 ghost use Rattle.fp_kernel.specs.Definitions.{Within};
 
 use crate::quantified::{choose, exists, ext, gen_all, select, spec};

@@ -1,4 +1,4 @@
-// Derived forms of quantifiers, called on texts.
+//! Derived forms of quantifiers, called on texts.
 ghost use Rattle.fp_kernel.specs.Definitions.{Within};
 
 use fp_kernel::{Defs, RuleFault, Thm};

@@ -1,4 +1,4 @@
-// Forms of conjunctions.
+//! Forms of conjunctions.
 use crate::tried::try_all;
 use fp_calls::{Call, Premise};
 use std::test::Fail;

@@ -1,4 +1,4 @@
-// Forms of disjunctions.
+//! Forms of disjunctions.
 use crate::tried::try_all;
 use fp_calls::{Call, Premise};
 use std::test::Fail;

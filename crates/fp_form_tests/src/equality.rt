@@ -1,4 +1,4 @@
-// Forms of equations.
+//! Forms of equations.
 use crate::tried::try_all;
 use fp_calls::{Call, Premise};
 use std::test::Fail;

@@ -1,4 +1,4 @@
-// Forms of implications.
+//! Forms of implications.
 use crate::tried::try_all;
 use fp_calls::{Call, Premise};
 use std::test::Fail;

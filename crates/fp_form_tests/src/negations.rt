@@ -1,4 +1,4 @@
-// Forms of negations and of falsity.
+//! Forms of negations and of falsity.
 use crate::tried::try_all;
 use fp_calls::{Call, Premise};
 use std::test::Fail;

@@ -1,4 +1,4 @@
-// Forms of the truth.
+//! Forms of the truth.
 use crate::tried::try_all;
 use fp_calls::{Call, Premise};
 use std::test::Fail;

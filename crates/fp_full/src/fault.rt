@@ -1,3 +1,4 @@
+//! Why a text is not read as full terms.
 ghost use Rattle.fp_full.specs.declared.fault.FullFault.TheVariants.{NoMemory};
 ghost use Rattle.std.specs.Prelude.{◌≡◌};
 

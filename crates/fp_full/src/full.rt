@@ -1,4 +1,4 @@
-// The public readers.
+//! The public readers.
 ghost use Rattle.std.specs.Prelude.{◌≡◌, ◌<◌, ◌^◌, length, map, IfOk, OnOk};
 ghost use Rattle.fp_full.specs.Texts.{Parsed as Reading, of_term, of_statement, of_file, a_term, a_statement, entries, kind_of, IsText, FirstBad, KeepsLimits, FirstTooDeep, FirstTooLong};
 ghost use Rattle.fp_full.specs.Views.{entries_of, IsRefusedAt, IsTooDeepAt, IsNameTooLongAt, IsReadAs, IsTextOfPairs, pair_of, statement_seen, definitions_seen};

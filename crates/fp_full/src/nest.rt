@@ -1,6 +1,6 @@
-// Terms whose parts are read.
-//
-// An enum here drops by an `impl` of its own, so that a function that drops one has a call there and not all its cases.
+//! Terms whose parts are read.
+//!
+//! An enum here drops by an `impl` of its own, so that a function that drops one has a call there and not all its cases.
 ghost use Rattle.std.specs.Prelude.{◌≡◌, ◌∷◌, ◌++◌, [], IfOk};
 ghost use Rattle.fp_full.specs.Machine.{after_whole};
 ghost use Rattle.fp_full.specs.Views.{state_of, nest_of, root_of, frame_of, frames_of};

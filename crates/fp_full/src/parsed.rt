@@ -1,3 +1,4 @@
+//! What a text of the full form is read as.
 use fp_term::{Name, Term};
 
 /// A definition of a file: the places of its first word and of its opening brace, its name and its term.

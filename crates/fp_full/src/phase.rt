@@ -1,4 +1,4 @@
-// What a reader of bytes knows between two of them.
+//! What a reader of bytes knows between two of them.
 ghost use Rattle.std.specs.Prelude.{◌≡◌, ◌∷◌, ◌++◌, [], ◌-◌, IfOk, length};
 ghost use Rattle.std.specs.Option.{option_map};
 ghost use Rattle.fp_full.specs.Tokens.{word};

@@ -1,4 +1,4 @@
-// Prints terms and statements.
+//! Prints terms and statements.
 ghost use Rattle.std.specs.Prelude.{◌≡◌, ◌++◌, ◌∷◌, [], List, OnOk, IfOk};
 ghost use Rattle.std.specs.Fmt.{decimal};
 ghost use Rattle.fp_term.specs.Terms.{Tm, app, abs};

@@ -1,4 +1,4 @@
-// Reads the full form byte by byte, with the open forms on stacks of its own.
+//! Reads the full form byte by byte, with the open forms on stacks of its own.
 ghost use Rattle.std.specs.Prelude.{◌≡◌, ◌≤◌, ◌<◌, ◌+◌, ◌^◌, length, MatchResult, MatchOption};
 ghost use Rattle.fp_full.specs.Texts.{opened_by, letters};
 ghost use Rattle.fp_full.specs.Machine.{open_word};

@@ -1,4 +1,4 @@
-// What is due at each place between two tokens.
+//! What is due at each place between two tokens.
 ghost use Rattle.std.specs.Prelude.{◌≡◌, [], ◌&&◌, not, IfOk, cond, codes, Some, None};
 ghost use Rattle.std.specs.Option.{option_map};
 ghost use Rattle.std.specs.Str.{bytes_eq};

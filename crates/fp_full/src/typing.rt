@@ -1,4 +1,4 @@
-// Types whose parts are read.
+//! Types whose parts are read.
 ghost use Rattle.std.specs.Prelude.{◌≡◌, ◌∷◌, ◌++◌, [], IfOk, cond, Some, None};
 ghost use Rattle.std.specs.Option.{option_map};
 ghost use Rattle.fp_term.specs.Names.{is_name};

@@ -1,4 +1,4 @@
-// Groups with what is computed of them.
+//! Groups with what is computed of them.
 use crate::tried::try_group;
 use crate::written::Written;
 use std::test::Fail;

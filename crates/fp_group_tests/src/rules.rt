@@ -1,4 +1,4 @@
-// Conclusions that state a congruence rule, and such as don't.
+//! Conclusions that state a congruence rule, and such as don't.
 use crate::written::term;
 use fp_cong_rule::cong_rule;
 use fp_term::Name;

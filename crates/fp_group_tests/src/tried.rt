@@ -1,4 +1,4 @@
-// What is computed of a group, beside written texts.
+//! What is computed of a group, beside written texts.
 use crate::written::{Written, full, group};
 use fp_full::print_full_term;
 use fp_group::Group;

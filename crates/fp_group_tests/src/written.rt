@@ -1,4 +1,4 @@
-// Groups of written texts.
+//! Groups of written texts.
 use fp_conclude::{function_parts, sides};
 use fp_cong::calls;
 use fp_cong_rule::cong_rule;

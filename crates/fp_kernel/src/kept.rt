@@ -1,3 +1,4 @@
+//! Theorems that are kept, so that each is derived only once.
 ghost use Rattle.std.specs.Prelude.{◌≡◌, ◌<◌, [], length, IfOk, IfSome, IsTrue};
 ghost use Rattle.fp_kernel.specs.Theorems.{plain};
 

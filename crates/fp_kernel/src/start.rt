@@ -1,3 +1,4 @@
+//! The signature at the start: truth values, functions, individuals, equality and selection.
 ghost use Rattle.std.specs.Prelude.{◌≡◌, [], ◌∷◌, ◌++◌, codes, IfOk, IsTrue};
 ghost use Rattle.fp_term.specs.Names.{is_name, equality, truth, function};
 ghost use Rattle.fp_conclude.specs.Logic.{alpha, predicate_type, binary_type, truth_type, equality_type, select_type, quantifier_type};

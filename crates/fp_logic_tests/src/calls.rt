@@ -1,4 +1,4 @@
-// Rules called on texts, and what comes of them as texts.
+//! Rules called on texts, and what comes of them as texts.
 ghost use Rattle.std.specs.Prelude.{IfOk};
 ghost use Rattle.fp_kernel.specs.Definitions.{Within};
 

@@ -1,4 +1,4 @@
-// What each rule gives and refuses, and the axioms and the connectives' definitions.
+//! What each rule gives and refuses, and the axioms and the connectives' definitions.
 use crate::calls::{Call, try_all};
 use fp_texts::Premise;
 use std::test::Fail;

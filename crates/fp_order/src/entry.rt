@@ -1,3 +1,5 @@
+//! An entry of a descent matrix.
+
 /// How a measure changes at a call.
 #[derive(Debug, Clone, Copy, PartialEq, Eq)]
 pub enum Entry {

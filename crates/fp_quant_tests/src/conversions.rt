@@ -1,4 +1,4 @@
-// Conversions.
+//! Conversions.
 use crate::tried::try_all;
 use fp_calls::{Call, Premise};
 use std::test::Fail;

@@ -1,4 +1,4 @@
-// Rewriting by instances.
+//! Rewriting by instances.
 use crate::tried::try_all;
 use fp_calls::{Call, Premise};
 use std::test::Fail;

@@ -1,4 +1,4 @@
-// Tables of calls with what they give.
+//! Tables of calls with what they give.
 use fp_calls::{Call, rows_right};
 use std::alloc::{AllocError, Global};
 use std::process::Abort;

@@ -1,3 +1,4 @@
+//! Statements: hypotheses and a conclusion.
 ghost use Rattle.std.specs.Prelude.{◌≡◌, IfOk};
 
 use crate::items::Items;

@@ -1,3 +1,4 @@
+//! Terms without names of bound variables, shared in cells.
 ghost use Rattle.std.specs.Prelude.{◌≡◌, ◌≤◌, ◌+◌, ◌-◌, ◌↔◌, ◌||◌, max, true, false, IsTrue, IfOk};
 ghost use Rattle.fp_term.specs.Terms.{Tm, bound, free, constant, app, abs, term_eq, height_of, size_of, Counts, term_hash, loose_of, is_open, has_type_variables, Marked};
 ghost use Rattle.fp_term.specs.TermView.{seen};

@@ -1,5 +1,4 @@
-// The rules, of whose theorems only this is said: they are over the list of definitions.
-
+//! The rules, of whose theorems only this is said: they are over the list of definitions.
 ghost use Rattle.std.specs.Prelude.{◌≤◌, IfOk};
 ghost use Rattle.fp_kernel.specs.Definitions.{Within};
 

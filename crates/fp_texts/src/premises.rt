@@ -1,4 +1,4 @@
-// Theorems to begin with, made by the rules. Of each only this is said: it is over the list of definitions.
+//! Theorems to begin with, made by the rules. Of each only this is said: it is over the list of definitions.
 ghost use Rattle.std.specs.Prelude.{IfOk};
 ghost use Rattle.fp_kernel.specs.Definitions.{Within};
 

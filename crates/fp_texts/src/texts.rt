@@ -1,4 +1,4 @@
-// Terms of texts with marks, and texts of what comes of a call.
+//! Terms of texts with marks, and texts of what comes of a call.
 use fp_full::{print_full, print_full_term, read_full_term};
 use fp_kernel::{RuleFault, Thm};
 use fp_term::{Name, Place, Term};

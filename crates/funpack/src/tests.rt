@@ -1,4 +1,4 @@
-// The program's run over files and a sink in memory.
+//! The program's run over files and a sink in memory.
 ghost use Rattle.std.specs.Prelude.{◌<◌, ◌-◌, ◌^◌};
 
 use fp_measure::{DeclaredSource, MeasureSource, SizeSource};
