@@ -15,6 +15,7 @@ mod promises;
 mod rules;
 mod start;
 mod thm;
+mod threads;
 mod typing;
 
 pub use definition::{Definition, Definitions};
@@ -24,3 +25,4 @@ pub use fp_conclude::{
     Axiom, LogicalConstant, RuleFault, equality_at, equation, predicate_over, truth_type,
 };
 pub use thm::Thm;
+pub use threads::cross_threads;
