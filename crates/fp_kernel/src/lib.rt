@@ -15,7 +15,6 @@ mod promises;
 mod rules;
 mod start;
 mod thm;
-mod threads;
 mod typing;
 
 pub use definition::{Definition, Definitions};
@@ -25,4 +24,3 @@ pub use fp_conclude::{
     Axiom, LogicalConstant, RuleFault, equality_at, equation, predicate_over, truth_type,
 };
 pub use thm::Thm;
-pub use threads::cross_threads;
