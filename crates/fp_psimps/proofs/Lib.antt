@@ -1,2 +1,0 @@
-pub mod InDomain
-pub mod Chained
