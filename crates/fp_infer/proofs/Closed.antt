@@ -88,7 +88,7 @@ repaired_by s a ts false e h = tt
 mutual
   unfolding repaired all_repaired
 
-  repaired_is : (s : Signature) (t : Typ) → IsType s (repaired s t)
+  pub repaired_is : (s : Signature) (t : Typ) → IsType s (repaired s t)
   repaired_is s (variable a) = tt
   repaired_is s (applied a ts) = repaired_by s a ts (has_count (arity_of a s.types) (count ts)) refl (all_repaired_are s ts)
 

@@ -4,4 +4,6 @@ pub mod Closed
 pub mod Fresh
 pub mod Built
 pub mod WellTyped
+pub mod Over
+pub mod ClashOver
 pub mod Whole

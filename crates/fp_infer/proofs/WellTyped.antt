@@ -16,16 +16,16 @@ use Rattle.fp_constrain.specs.Subterms.{top}
 use Rattle.fp_constrain.specs.Rules.{Scope, is_named, innermost, NameHas, ConstantHas, BoundHas, Has}
 use Rattle.fp_infer.specs.Built.{Around, bound_number, named, built}
 
-abbrev types_in : Scope → List Typ
+abbrev pub types_in : Scope → List Typ
 types_in [] = []
 types_in (b ∷ scope) = b.1 ∷ types_in scope
 
-abbrev names_in : Scope → Around
+abbrev pub names_in : Scope → Around
 names_in [] = []
 names_in (b ∷ scope) = b.0 ∷ names_in scope
 
 -- a name and its type: of a bound variable or of none
-data Resolves (env : List Typ) : Option ℕ → Option Typ → Type 0 where
+pub data Resolves (env : List Typ) : Option ℕ → Option Typ → Type 0 where
   to_none : Resolves env None None
   to_bound : (k : ℕ) (t : Typ) → slice_get env k ≡ Some t → Resolves env (Some k) (Some t)
 
@@ -35,7 +35,7 @@ further env u None (Some t) x = elim x [ ]
 further env u (Some k) None x = elim x [ ]
 further env u (Some k) (Some t) (to_bound k' t' e) = to_bound (k' + 1) t' (let n : k' + 1 ≡ suc k' = omega arith in rw n e)
 
-resolves : (a : List ℕ) (scope : Scope) → Resolves (types_in scope) (bound_number a (names_in scope)) (innermost a scope)
+pub resolves : (a : List ℕ) (scope : Scope) → Resolves (types_in scope) (bound_number a (names_in scope)) (innermost a scope)
 resolves a [] = to_none
 resolves a (b ∷ scope) =
     elim (is_named b.0 a) as (λ r. Resolves (b.1 ∷ types_in scope) (cond r (Some 0) (option_map (λ k. k + 1) (bound_number a (names_in scope)))) (cond r (Some b.1) (innermost a scope)))

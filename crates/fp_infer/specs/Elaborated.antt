@@ -1,14 +1,15 @@
 -- The term that a written term stands for.
-use Rattle.std.specs.Prelude.{◌≡◌, ◌<◌, ◌≤◌, ◌+◌, ℕ, List, [], ◌∷◌, length, slice_index_or, Option, Some, None, Result, Ok, Err}
+use Rattle.std.specs.Prelude.{◌≡◌, ◌<◌, ◌≤◌, ◌+◌, ℕ, List, [], ◌∷◌, ◌++◌, length, slice_index_or, Option, Some, None, Result, Ok, Err}
 use Rattle.fp_term.specs.Types.{Typ, found_type}
 use Rattle.fp_term.specs.Terms.{Tm}
 use Rattle.fp_term.specs.Variables.{type_names_in}
 use Rattle.fp_term.specs.Typing.{type_under}
-use Rattle.fp_term.specs.Signatures.{IsType}
+use Rattle.fp_term.specs.Signatures.{IsType, IsWellTyped}
 use Rattle.fp_term.specs.declared.signature.Signature.{Signature}
 use Rattle.fp_raw.specs.Raws.{RawTm, raw_size}
 use Rattle.fp_constrain.specs.Declarations.{Declarations, declarations}
 use Rattle.fp_constrain.specs.Subterms.{top}
+use Rattle.fp_constrain.specs.Rules.{IsWritten}
 use Rattle.fp_constrain.specs.Clash.{IsTyping, Clashes}
 use Rattle.fp_constrain.specs.Draws.{HasFunctions}
 use Rattle.fp_infer.specs.Names.{wrong_in, earliest, written_names}
@@ -58,8 +59,15 @@ pub record IsLarge (s : Signature) (g : Declarations) (given : List (List ℕ ×
   pub before : (j : ℕ) → j < k → type_nodes (types j) ≤ 200
   pub large : 200 < type_nodes (types k)
 
+-- the constraints of the subterms below the limit hold by types of the signature
+pub record SatisfiableOver (s : Signature) (g : Declarations) (given : List (List ℕ × Typ)) (want : Option Typ) (limit : ℕ) (raw : RawTm) : Type 0 where
+  pub vars : List ℕ → Typ
+  pub types : ℕ → Typ
+  pub typing : IsTyping s g given want limit raw vars types
+  pub over : (k : ℕ) → IsType s (types k)
+
 abbrev pub ClashesAt : Signature → Declarations → List (List ℕ × Typ) → Option Typ → RawTm → ℕ → Type 0
-ClashesAt s g given want raw at = (k : ℕ) × Clashes s g given want raw k × (at ≡ place_of k raw)
+ClashesAt s g given want raw at = (k : ℕ) × Clashes s g given want raw k × SatisfiableOver s g given want k raw × (at ≡ place_of k raw)
 
 abbrev pub IsLargeAt : Signature → Declarations → List (List ℕ × Typ) → Option Typ → List (List ℕ) → RawTm → ℕ → Type 0
 IsLargeAt s g given want written raw at = (k : ℕ) × IsLarge s g given want written raw k × (at ≡ place_of k raw)
@@ -79,6 +87,21 @@ pub record IsSound (s : Signature) (exact given : List (List ℕ × Typ)) : Type
   pub declared : (a : List ℕ) (t : Typ) → found_type a s.consts ≡ Some t → IsType s t
   pub exact_types : AreTypesIn s exact
   pub given_types : AreTypesIn s given
+
+-- the signature, and before its constants those of exact types
+abbrev pub with_exact : Signature → List (List ℕ × Typ) → Signature
+with_exact s exact = record { types = s.types; consts = exact ++ s.consts }
+
+-- the term is well typed over the signature, of the wanted type where one is wanted
+pub record IsTermOf (s : Signature) (want : Option Typ) (t : Tm) : Type 0 where
+  pub type : Typ
+  pub well_typed : IsWellTyped s t type
+  pub wanted : IsWritten want type
+
+-- a clash, before which the types are of the signature where the names are right
+abbrev pub MayClashAt : Signature → List (List ℕ × Typ) → List (List ℕ × Typ) → Option Typ → RawTm → ℕ → Type 0
+MayClashAt s exact given want raw at =
+    (k : ℕ) × Clashes s (declarations s exact) given want raw k × (AreRight s (declarations s exact) raw → IsSound s exact given → SatisfiableOver s (declarations s exact) given want k raw) × (at ≡ place_of k raw)
 
 -- what comes of the names of a written term
 abbrev pub ChecksNames : Signature → Declarations → RawTm → Result (Unit {0}) InferFault → Type 0

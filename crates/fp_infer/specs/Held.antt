@@ -9,7 +9,7 @@ use Rattle.fp_constrain.specs.Posed.{Poses}
 use Rattle.fp_constrain.specs.declared.clash.Question.{Question}
 use Rattle.fp_unify.specs.General.{IsBest}
 use Rattle.fp_infer.specs.Names.{written_names}
-use Rattle.fp_infer.specs.Elaborated.{FirstBeyond, Elaborated, ClashesAt, IsLargeAt, AreRight, IsSound}
+use Rattle.fp_infer.specs.Elaborated.{FirstBeyond, Elaborated, MayClashAt, IsLargeAt, AreRight, IsSound}
 use Rattle.fp_infer.specs.declared.elaborating.Types.{Types}
 use Rattle.fp_infer.specs.declared.elaborating.Typed.{Typed}
 use Rattle.fp_infer.specs.declared.elaborating.Typed.TheVariants.{Found, ClashAt}
@@ -20,7 +20,7 @@ pub record AreTypes (q : Question) (types : Types) : Type 0 where
 
 abbrev pub FindsTypes : Question → Typed → Type 0
 FindsTypes q (Found types) = AreTypes q types
-FindsTypes q (ClashAt at) = ClashesAt q.constants.now.signature.now (declared_in q.constants.now) q.given.now (option_copied q.want) q.raw.now at
+FindsTypes q (ClashAt at) = MayClashAt q.constants.now.signature.now q.constants.now.exact.now q.given.now (option_copied q.want) q.raw.now at
 
 abbrev pub AreSmall : Types → Type 0
 AreSmall types = FirstBeyond types.cells.items types.equations.seen.items 200 None

@@ -7,7 +7,7 @@ ghost use Rattle.fp_unify.specs.Cells.{AreFine};
 ghost use Rattle.fp_infer.specs.Built.{place_of};
 ghost use Rattle.fp_infer.specs.Elaborated.{FirstBeyond, Answers};
 ghost use Rattle.fp_infer.specs.Held.{AreTypes, FindsTypes, AreSmall, IsTooLargeAt, Elaborates, IsRight, IsSoundFor};
-ghost use Rattle.fp_infer.specs.Elaborated.{IsSound, ChecksNames};
+ghost use Rattle.fp_infer.specs.Elaborated.{IsSound, ChecksNames, with_exact, IsTermOf};
 
 use crate::building::{Binders, build};
 use crate::fault::InferFault;
@@ -146,6 +146,7 @@ pub fn term_of(alloc: Global, question: &Question<'_>, types: &Types) -> Result<
 }
 
 // The term of a question whose names are right.
+#[tactic(auto, using(crate::proofs::ClashOver::clash_known))]
 fn elaborate_right(alloc: Global, question: &Question<'_>) -> Result<Term, InferFault>
     requires right { IsRight question.now }
     requires sound { IsSoundFor question.now }
@@ -176,6 +177,7 @@ fn check_names(constants: &Constants<'_>, raw: &Raw) -> Result<(), InferFault>
     Ok(())
 }
 
+#[tactic(auto, using(crate::proofs::Over::answered_term))]
 /// The most general term that the written one stands for, where the constants of exact types have just these. Its type
 /// is the wanted one, and the given variables have their types. Written type variables stand for themselves; the others
 /// are named `'a`, .., `'z`, `'a1` and so on in order of first occurrence.
@@ -187,7 +189,10 @@ pub fn elaborate_with(
     want: Option<&Ty>,
 ) -> Result<Term, InferFault>
     requires { IsSound constants.now.signature.now constants.now.exact.now given.now }
-    ensures { Answers constants.now.signature.now constants.now.exact.now given.now (option_copied want.entry) raw.now result }
+    ensures answers { Answers constants.now.signature.now constants.now.exact.now given.now (option_copied want.entry) raw.now result }
+
+    // The term is well typed over the signature, in which these constants have exactly these types.
+    ensures well_typed { IfOk result (λ t. IsTermOf (with_exact constants.now.signature.now constants.now.exact.now) (option_copied want.entry) t) }
 {
     check_names(constants, raw)?;
     let question = Question {
@@ -199,6 +204,7 @@ pub fn elaborate_with(
     elaborate_right(alloc, &question)
 }
 
+#[tactic(auto, using(crate::proofs::Over::answered_alone))]
 /// The most general term that the written one stands for.
 pub fn elaborate(
     alloc: Global,
@@ -208,7 +214,10 @@ pub fn elaborate(
     want: Option<&Ty>,
 ) -> Result<Term, InferFault>
     requires { IsSound signature.now [] given.now }
-    ensures { Answers signature.now [] given.now (option_copied want.entry) raw.now result }
+    ensures answers { Answers signature.now [] given.now (option_copied want.entry) raw.now result }
+
+    // The term is well typed over the signature.
+    ensures well_typed { IfOk result (λ t. IsTermOf signature.now (option_copied want.entry) t) }
 {
     let constants = Constants {
         signature,
