@@ -21,7 +21,7 @@ row_shown : (g : Grid) (known : List (Option Entry)) (k : ℕ) → IsRowShown g 
 unfolding IsShown
 row_shown g known k w = w
 
-shown_test : (g : Grid) (known : List (Option Entry)) → IsGrid g → length known ≡ length (cells_of g) → (k : ℕ) → k < length (cells_of g) → IsShown g known k ⊎ (IsShown g known k → ⊥)
+pub shown_test : (g : Grid) (known : List (Option Entry)) → IsGrid g → length known ≡ length (cells_of g) → (k : ℕ) → k < length (cells_of g) → IsShown g known k ⊎ (IsShown g known k → ⊥)
 shown_test g known h len k l =
     let n = length (columns_of g.functions) in
     let rows = length g.rows in
@@ -52,12 +52,12 @@ next_needed g known h len (suc m) l = elim (next_needed g known h len m (omega a
   ]
 
 -- how many cells are not known
-holes : List (Option Entry) → ℕ
+pub holes : List (Option Entry) → ℕ
 holes [] = 0
 holes (None ∷ known) = suc (holes known)
 holes (Some v ∷ known) = holes known
 
-hole_filled : (known : List (Option Entry)) (k : ℕ) (v : Entry) → k < length known → get_or known k None ≡ None → holes known ≡ suc (holes (set known k (Some v)))
+pub hole_filled : (known : List (Option Entry)) (k : ℕ) (v : Entry) → k < length known → get_or known k None ≡ None → holes known ≡ suc (holes (set known k (Some v)))
 unfolding holes
 hole_filled [] k v l h = absurd (omega arith)
 hole_filled (None ∷ known) zero v l h = refl
@@ -80,13 +80,13 @@ needed_by g full h (suc fuel) known len few = elim (next_needed g known h len (l
 ]
 
 -- the first cell that is needed is one
-next_once : (g : Grid) (known : List (Option Entry)) (k j : ℕ) → IsNextNeeded g known k → IsNextNeeded g known j → k ≡ j
+pub next_once : (g : Grid) (known : List (Option Entry)) (k j : ℕ) → IsNextNeeded g known k → IsNextNeeded g known j → k ≡ j
 next_once g known k j p q = elim (cases_lt k j) [
   | inl l ↦ absurd (p.hidden (q.first k l p.unknown))
   | inr l ↦ elim (cases_lt j k) [ inl m ↦ absurd (q.hidden (p.first j m q.unknown)) | inr m ↦ omega arith ]
 ]
 
-needed_once : (g : Grid) (full : List Entry) (known : List (Option Entry)) (a b : List ℕ) → IsNeededAfter g full known a → IsNeededAfter g full known b → a ≡ b
+pub needed_once : (g : Grid) (full : List Entry) (known : List (Option Entry)) (a b : List ℕ) → IsNeededAfter g full known a → IsNeededAfter g full known b → a ≡ b
 needed_once g full known [] [] p q = refl
 needed_once g full known [] (j ∷ b) p q = absurd (q.0.hidden (p j q.0.inside q.0.unknown))
 needed_once g full known (k ∷ a) [] p q = absurd (p.0.hidden (q k p.0.inside p.0.unknown))
@@ -114,7 +114,7 @@ came_from full known (j ∷ cells) k v h = elim (came_from full (learned full kn
 ]
 
 -- in the end each cell is known or shown
-closed_after : (g : Grid) (full : List Entry) (known : List (Option Entry)) (cells : List ℕ) → IsNeededAfter g full known cells → (k : ℕ) → k < length (cells_of g) →
+pub closed_after : (g : Grid) (full : List Entry) (known : List (Option Entry)) (cells : List ℕ) → IsNeededAfter g full known cells → (k : ℕ) → k < length (cells_of g) →
     ((v : Entry) × (get_or (known_after full known cells) k None ≡ Some v)) ⊎ IsShown g (known_after full known cells) k
 closed_after g full known [] all k l = by_entry (get_or known k None) refl where
   by_entry : (x : Option Entry) → get_or known k None ≡ x → ((v : Entry) × (get_or known k None ≡ Some v)) ⊎ IsShown g known k

@@ -4,3 +4,4 @@ pub mod Shown
 pub mod Effect
 pub mod Need
 pub mod Machine
+pub mod Front

@@ -16,6 +16,7 @@ pub use laws::{
 };
 pub use machine::Machine;
 pub use partial::Partial;
-pub use search::{forced, shown};
+pub use search::{Front, force, forced, shown};
 pub use state::{CellState, Event};
+pub use table::{ColumnCells, column_cells};
 pub use threads::cross_threads;

@@ -1,9 +1,10 @@
 //! The search for forced columns.
 
-ghost use Rattle.std.specs.Prelude.{◌≡◌, ◌<◌, ◌↔◌, vec_len, length, IsTrue, IfOk, MatchOption};
+ghost use Rattle.std.specs.Prelude.{◌≡◌, ◌<◌, ◌↔◌, List, Option, vec_len, length, IsTrue, IfOk, MatchOption};
+ghost use Rattle.fp_order.specs.declared.entry.Entry.{Entry};
 ghost use Rattle.fp_order.specs.Grid.{cells_of, columns_of, IsGrid};
 ghost use Rattle.fp_order.specs.Greedy.{IsLeft};
-ghost use Rattle.fp_shown.specs.Fillings.{TellsShown};
+ghost use Rattle.fp_shown.specs.Front.{IsFront};
 ghost use Rattle.fp_shown.specs.Known.{known_at, IsSure, IsStuck, IsOfKind, IsMarked};
 ghost use Rattle.fp_shown.specs.Shown.{number_on, AreForced, IsRowShown, IsShown};
 
@@ -98,13 +99,23 @@ pub struct Front {
     pub decided: Vec<Option<u32>>,
 }
 
+impl Front {
+    /// Whether the row of the cell is decided by the forced columns in every filling.
+    pub fn shows(&self, s: &ColumnCells, cell: u32) -> bool
+        requires rows { vec_len self.now.decided ≡ s.now.rows }
+        requires cell { cell < length (cells_of s.now.grid) }
+        ensures { (known : List (Option Entry)) → IsFront s.now.grid known self.now → IsTrue result ↔ IsShown s.now.grid known cell }
+    {
+        self.decided[s.row_of(cell) as usize].is_some()
+    }
+}
+
 /// The columns with which the column search of every filling begins, and the rows that they decide.
 pub fn force(alloc: Global, s: &ColumnCells, known: &[Option<Entry>]) -> Result<Front, AllocError>
     requires { length known.now ≡ length (cells_of s.now.grid) }
     ensures forced { IfOk result (λ f. AreForced s.now.grid known.now f.columns.items) }
     ensures rows { IfOk result (λ f. vec_len f.decided ≡ s.now.rows) }
-    ensures shown { IfOk result (λ f. TellsShown (number_on s.now.grid) (length (columns_of s.now.grid.functions))
-        (length s.now.grid.rows) known.now f.decided.items) }
+    ensures shown { IfOk result (λ f. IsFront s.now.grid known.now f) }
 {
     let mut decided = vec![in alloc; None; s.rows as usize]?;
     let mut columns = Vec::new(alloc);
@@ -127,11 +138,7 @@ pub fn cell_shown(
     ensures { IfOk result (λ b. IsTrue b ↔ IsShown s.now.grid known.now cell) }
 {
     let front = force(alloc, s, known)?;
-    let row = s.row_of(cell);
-    match front.decided[row as usize] {
-        Some(_) => Ok(true),
-        None => Ok(false),
-    }
+    Ok(front.shows(s, cell))
 }
 
 /// The columns, by their numbers, with which the column search of every filling begins.
