@@ -1,21 +1,17 @@
 -- Equations over all definitions, by `t = t`.
-use Rattle.std.proofs.Common.{◌≡◌, ◌∙◌, Bool, true, false, cond, List, [], ◌∷◌, refl, sym, ap, subst}
-use Rattle.std.specs.Prelude.{ℕ, Result, Ok, Err, IfOk}
+use Rattle.std.proofs.Common.{◌≡◌, ◌∙◌, true, List, [], ◌∷◌, refl, sym}
 use Rattle.std.specs.List.{list_all}
 use Rattle.fp_term.specs.Types.{Typ}
-use Rattle.fp_term.specs.Terms.{Tm, term_eq}
+use Rattle.fp_term.specs.Terms.{Tm}
 use Rattle.fp_term.proofs.Equal.{term_eq-decides}
-use Rattle.fp_conclude.specs.declared.fault.RuleFault.{RuleFault}
 use Rattle.fp_conclude.specs.Logic.{equal}
-use Rattle.fp_conclude.specs.Parts.{equation}
-use Rattle.fp_conclude.specs.Hypotheses.{member, union}
-use Rattle.fp_conclude.specs.Outcomes.{Outcome, gives, refused, followed_by, Answers, with_part, not_equation}
-use Rattle.fp_conclude.specs.Rules.{joined, trans_of}
+use Rattle.fp_conclude.specs.Hypotheses.{member}
+use Rattle.fp_conclude.specs.Outcomes.{Outcome, gives, refused, followed_by}
+use Rattle.fp_conclude.specs.Rules.{trans_of}
 use Rattle.fp_conclude.proofs.Outcomes.{same_given}
 use Rattle.fp_conclude.proofs.Equations.{equal_parts}
 use Rattle.fp_kernel.specs.Definitions.{Def}
-use Rattle.fp_kernel.specs.Start.{signature_of}
-use Rattle.fp_kernel.specs.Theorems.{Theorem, plain, stands, from_both, promise_union}
+use Rattle.fp_kernel.specs.Theorems.{Theorem, plain, stands, from_both}
 use Rattle.fp_retrace.specs.Proving.{Equates}
 use Rattle.fp_simp_eq.specs.Equation.{reflexive, IsEquationOf, IsReflexive}
 
@@ -41,6 +37,6 @@ both : (defs : List Def) (s : Typ) (t u : Tm) (a th : Theorem) → a ≡ plain d
 both defs s t u a th is e =
     rw (is, e.concl, e.rests.promises, no_member th.hyps e.rests.hyps, joined_parts s e.type t u) refl
 
-made : (defs : List Def) (t u : Tm) (s : Typ) (o : Outcome Theorem) (q : Result Theorem RuleFault) → o ≡ gives (plain defs (equal s t u)) → Answers q o → IfOk q (λ th. th ≡ plain defs (equal s t u))
-made defs t u s o (Ok th) e h = same_given th _ (sym h ∙ e)
-made defs t u s o (Err f) e h = tt
+pub over_all : (defs : List Def) (t u : Tm) (a th w : Theorem) → IsReflexive defs t a → Equates defs [] t u th → from_both defs a th (trans_of a.concl th.concl) ≡ gives w → IsEquationOf defs t u w
+over_all defs t u a th w i e g =
+    record { type = i.type; typed = i.typed; is = same_given w _ (sym g ∙ both defs i.type t u a th i.is e) }

@@ -41,7 +41,6 @@ fn simplified(alloc: Global, theory: &Theory, term: &Term) -> Result<(Simped, Th
 
 // `t = u` over all definitions, from `t = t` over all and `t = u` over some. These fit, so that memory alone can be
 // wanting.
-#[tactic(auto, using(crate::proofs::Joined::joined))]
 fn joined(
     alloc: Global,
     defs: &Defs,
@@ -66,6 +65,7 @@ fn joined(
 /// `t = u` over all definitions, without hypotheses and promises, where `u` is what the simplifier answers for `t` by the
 /// declared rules, without guards, with fuel 1,000 and room 20,000. Where `t` isn't well typed over the signature, the
 /// refusal of `t = t`.
+#[tactic(auto, using(crate::proofs::Joined::itself))]
 pub fn simp_eq(alloc: Global, theory: &Theory, term: &Term) -> Result<Thm, RuleFault>
     ensures { EquatesSimplified theory.now.defs (rewrite_rules theory.now.named theory.now.simps) term.now result }
 {
