@@ -76,11 +76,7 @@ fn goal(alloc: Global, asked: &mut Asked, text: &str) -> Result<Option<String>, 
 }
 
 /// Takes the line, and gives the answer where it is a goal.
-pub fn taken(
-    alloc: Global,
-    asked: &mut Asked,
-    line: &str,
-) -> Result<Option<String>, AllocError> {
+pub fn taken(alloc: Global, asked: &mut Asked, line: &str) -> Result<Option<String>, AllocError> {
     if line == "rule" {
         *asked = Asked::new(alloc);
         return Ok(None);
