@@ -1,12 +1,13 @@
-//! What a goal becomes, as a line: the fuel and the room that are left, the steps, and the term; or that memory was
-//! wanting. Beside one run to the end stand runs by few steps at a time, and the line says where one of them ends otherwise.
+//! What a goal becomes, as a line: the fuel and the room that are left, the steps, and the term, or the number of its nodes
+//! where these are many; or that memory was wanting. Beside one run to the end stand runs by few steps at a time, and the
+//! line says where one of them ends otherwise.
 ghost use Rattle.std.specs.Prelude.{◌≡◌, IfOk, IfSome, OnOk, All};
 ghost use Rattle.fp_rewriting.specs.Stated.{IsStated};
 
 use fp_full::print_full_term;
 use fp_rewriting::{Rule, RuleSet, rule_of};
 use fp_simp::{SimpTask, Simped};
-use fp_term::{Name, Term, same};
+use fp_term::{Name, Term, nodes, same};
 use std::alloc::{AllocError, Global};
 
 fn add_rule(rules: &mut Vec<Rule>, rule: Option<Rule>) -> Result<(), AllocError>
@@ -69,6 +70,16 @@ fn agree(first: &(Simped, u64), second: &(Simped, u64)) -> bool {
         && first.1 == second.1
 }
 
+// The term, or the number of its nodes.
+fn term_shown(alloc: Global, term: &Term) -> Result<String, AllocError> {
+    let count = nodes(term);
+    if count > 1000 {
+        return format!(in alloc; "{count} nodes");
+    }
+    let text = print_full_term(alloc, term)?;
+    String::from_utf8_lossy(alloc, text.as_slice())
+}
+
 fn shown(alloc: Global, goal: Goal<'_>) -> Result<String, AllocError> {
     let whole = ended(alloc, goal, u32::MAX)?;
     for piece in [1u32, 3, 64] {
@@ -76,8 +87,7 @@ fn shown(alloc: Global, goal: Goal<'_>) -> Result<String, AllocError> {
             return format!(in alloc; "by {piece} steps otherwise");
         }
     }
-    let term = print_full_term(alloc, &whole.0.term)?;
-    let term = String::from_utf8_lossy(alloc, term.as_slice())?;
+    let term = term_shown(alloc, &whole.0.term)?;
     format!(in alloc; "{} {} {} {term}", whole.0.fuel, whole.0.room, whole.1)
 }
 

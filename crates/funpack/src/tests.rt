@@ -121,7 +121,8 @@ const YES_LINES: &[u8] =
     b"theorem ex_T: |- (%a. a) T\ntypedef yes_abs_rep: |- to_yes (of_yes a) = a\ntypedef yes_rep_abs: |- (%a. a) r = (of_yes (to_yes r) = r)\n";
 
 // A theorem whose variable isn't in the left side of what it states.
-const UNBOUND_RULE: &[u8] = b"lemma r: \"x = x --> T = T\" proof refl \"T\"; disch \"(x::'a) = x\" 1; end
+const UNBOUND_RULE: &[u8] =
+    b"lemma r: \"x = x --> T = T\" proof refl \"T\"; disch \"(x::'a) = x\" 1; end
 simp r";
 
 const UNBOUND_RULE_LINES: &[u8] =
@@ -134,7 +135,7 @@ typedef nat abs to_nat rep of_nat by ex_T
 measure [nat] \"m\"";
 
 const OPEN_MEASURE_LINES: &[u8] =
-    b"theorem ex_T: |- (%a. a) T\ntypedef nat_abs_rep: |- to_nat (of_nat a) = a\ntypedef nat_rep_abs: |- (%a. a) r = (of_nat (to_nat r) = r)\nrefused a.hol at 137: NotMeasure\n";
+    b"theorem ex_T: |- (%a. a) T\ntypedef nat_abs_rep: |- to_nat (of_nat a) = a\ntypedef nat_rep_abs: |- (%a. a) r = (of_nat (to_nat r) = r)\nrefused a.hol at 135: NotMeasure\n";
 
 // The short form, where the words don't ask for the full one.
 #[test]
