@@ -9,4 +9,5 @@ returns-in_err-term-clause-exact c =
 
 pub returns-clause-exact : goal.returns-clause-exact
 returns-clause-exact c =
-    rw (c.requires.same, ← c.in-Some.ensures) (read c.in_ok-term.term c.in_ok-term.ensures c.tell_simp.ensures.exact)
+    let told = rw (← c.requires.same) at c.tell_simp.ensures.exact in
+    rw (← c.in-Some.ensures) (read c.in_ok-term.term c.in_ok-term.ensures told)
