@@ -35,7 +35,8 @@ equation_rules =
     ∷ (codes "truth", rule.Truth)
     ∷ (codes "eqt", (rule.Theorem theorem.Eqt))
     ∷ (codes "eqt_elim", (rule.Theorem theorem.EqtElim))
-    ∷ (codes "eqf", (rule.Theorem theorem.Eqf)) ∷ []
+    ∷ (codes "eqf", (rule.Theorem theorem.Eqf))
+    ∷ (codes "simp_eq", rule.SimpEq) ∷ []
 
 -- forms of connectives
 abbrev pub connective_rules : List (List ℕ × Rule)

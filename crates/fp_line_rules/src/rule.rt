@@ -86,6 +86,8 @@ pub enum Rule {
     Inst,
     /// Called on a theorem, and type variables with types.
     InstTy,
+    /// Called on a term, with the rules that are declared.
+    SimpEq,
 }
 
 // The rules by their names: those of the kernel, forms on equations and truth, forms of connectives, and forms of
@@ -103,7 +105,7 @@ const KERNEL_RULES: [(&[u8], Rule); 10] = [
     (b"inst_ty", Rule::InstTy),
 ];
 
-const EQUATION_RULES: [(&[u8], Rule); 9] = [
+const EQUATION_RULES: [(&[u8], Rule); 10] = [
     (b"sym", Rule::Theorem(OfTheorem::Sym)),
     (b"ap", Rule::TermTheorem(BeforeTheorem::Ap)),
     (b"ap_arg", Rule::TheoremTerm(BeforeTerm::ApArg)),
@@ -113,6 +115,7 @@ const EQUATION_RULES: [(&[u8], Rule); 9] = [
     (b"eqt", Rule::Theorem(OfTheorem::Eqt)),
     (b"eqt_elim", Rule::Theorem(OfTheorem::EqtElim)),
     (b"eqf", Rule::Theorem(OfTheorem::Eqf)),
+    (b"simp_eq", Rule::SimpEq),
 ];
 
 const CONNECTIVE_RULES: [(&[u8], Rule); 12] = [

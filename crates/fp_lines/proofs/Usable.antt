@@ -10,6 +10,8 @@ use Rattle.fp_kernel.specs.Theorems.{Theorem, plain}
 use Rattle.fp_commands.specs.declared.command.Line.{Line}
 use Rattle.fp_line_rules.specs.Standing.{IsUsable, IsLine, AreLines}
 use Rattle.fp_line_rules.specs.Rules.{Told}
+use Rattle.fp_rewriting.specs.declared.rule.Rule.{Rule}
+use Rattle.fp_simp_eq.specs.Equation.{EquatesSimplified}
 use Rattle.fp_lines.specs.Read.{Answer, line_numbered}
 use Rattle.fp_lines.specs.Lines.{told}
 use Rattle.fp_lines.specs.Checks.{IsEnd, EndFails, Gives, LineFails, Goes, Leads, next, fails, ends_otherwise, wanting}
@@ -23,6 +25,11 @@ told_is defs (Err f) h = tt
 -- a line gives what its rule gives
 pub told_line : (defs : List Def) (q : Told) (r : Answer) → r ≡ told q → IfOk q (IsLine defs) → IfOk r (IsLine defs)
 told_line defs q r e h = subst (λ (u : Answer). IfOk u (IsLine defs)) (sym e) (told_is defs q h)
+
+-- the equation of a term with what it simplifies to
+pub simp_line : (defs : List Def) (rules : List Rule) (t : Tm) (q : Told) → EquatesSimplified defs rules t q → IfOk q (IsLine defs)
+simp_line defs rules t (Ok th) h = rw h.equation.is (record { promises = refl; over = refl })
+simp_line defs rules t (Err f) h = tt
 
 line_usable : (defs : List Def) (th : Theorem) → IsLine defs th → IsUsable defs th
 line_usable defs th h = record { promises = h.promises; within = subst (λ (ds : List Def). Within ds defs) (sym h.over) whole }
@@ -70,25 +77,25 @@ pub left_none : (ls : List Line) (i : ℕ) → length ls ≤ i → drop i ls ≡
 left_none ls i h = rw (drop_of_length-le ls h) refl
 
 -- one line more leads on
-pub leads_on : (defs : List Def) (named : List (List ℕ × Theorem)) (given : List (List ℕ × Typ)) (statement : Tm) (before : List Theorem) (n : ℕ) (ls : List Line) (i : ℕ) (l : Line) (th : Theorem) →
-    i < length ls → l ≡ get_or ls i l → Gives (record { defs = defs; named = named; given = given; before = before }) l th →
-    Leads defs named given statement before n (drop i ls) ls → Leads defs named given statement (before ++ th ∷ []) (n + 1) (drop (i + 1) ls) ls
-leads_on defs named given statement before n ls i l th h e g k = λ r goes. k r (rw (left_at ls i l h e) (next th g goes))
+pub leads_on : (defs : List Def) (named : List (List ℕ × Theorem)) (simps : List (List ℕ)) (given : List (List ℕ × Typ)) (statement : Tm) (before : List Theorem) (n : ℕ) (ls : List Line) (i : ℕ) (l : Line) (th : Theorem) →
+    i < length ls → l ≡ get_or ls i l → Gives (record { defs = defs; named = named; simps = simps; given = given; before = before }) l th →
+    Leads defs named simps given statement before n (drop i ls) ls → Leads defs named simps given statement (before ++ th ∷ []) (n + 1) (drop (i + 1) ls) ls
+leads_on defs named simps given statement before n ls i l th h e g k = λ r goes. k r (rw (left_at ls i l h e) (next th g goes))
 
 -- and where a line fails, that comes of all
-pub leads_to_fault : (defs : List Def) (named : List (List ℕ × Theorem)) (given : List (List ℕ × Typ)) (statement : Tm) (before : List Theorem) (n : ℕ) (ls : List Line) (i : ℕ) (l : Line) (f : ProofFault) →
-    i < length ls → l ≡ get_or ls i l → LineFails (record { defs = defs; named = named; given = given; before = before }) l n f →
-    Leads defs named given statement before n (drop i ls) ls → Goes defs named given statement [] 1 ls (Err f)
-leads_to_fault defs named given statement before n ls i l f h e g k = k (Err f) (rw (left_at ls i l h e) (fails g))
+pub leads_to_fault : (defs : List Def) (named : List (List ℕ × Theorem)) (simps : List (List ℕ)) (given : List (List ℕ × Typ)) (statement : Tm) (before : List Theorem) (n : ℕ) (ls : List Line) (i : ℕ) (l : Line) (f : ProofFault) →
+    i < length ls → l ≡ get_or ls i l → LineFails (record { defs = defs; named = named; simps = simps; given = given; before = before }) l n f →
+    Leads defs named simps given statement before n (drop i ls) ls → Goes defs named simps given statement [] 1 ls (Err f)
+leads_to_fault defs named simps given statement before n ls i l f h e g k = k (Err f) (rw (left_at ls i l h e) (fails g))
 
 -- what comes of a last theorem that isn't the statement
-pub otherwise : (defs : List Def) (named : List (List ℕ × Theorem)) (given : List (List ℕ × Typ)) (statement : Tm) (before : List Theorem) (n : ℕ) (th : Theorem) (f : ProofFault) →
-    (IsEnd statement th → ⊥) → EndFails th f → Goes defs named given statement (before ++ th ∷ []) n [] (Err f)
-otherwise defs named given statement before n th (BadRuleName line) other h = absurd h
-otherwise defs named given statement before n th (BadLine line cause) other h = absurd h
-otherwise defs named given statement before n th (WrongEnd None) other h = absurd h
-otherwise defs named given statement before n th (WrongEnd (Some s)) other h = ends_otherwise before th other h
-otherwise defs named given statement before n th NoMemory other h = wanting
+pub otherwise : (defs : List Def) (named : List (List ℕ × Theorem)) (simps : List (List ℕ)) (given : List (List ℕ × Typ)) (statement : Tm) (before : List Theorem) (n : ℕ) (th : Theorem) (f : ProofFault) →
+    (IsEnd statement th → ⊥) → EndFails th f → Goes defs named simps given statement (before ++ th ∷ []) n [] (Err f)
+otherwise defs named simps given statement before n th (BadRuleName line) other h = absurd h
+otherwise defs named simps given statement before n th (BadLine line cause) other h = absurd h
+otherwise defs named simps given statement before n th (WrongEnd None) other h = absurd h
+otherwise defs named simps given statement before n th (WrongEnd (Some s)) other h = ends_otherwise before th other h
+otherwise defs named simps given statement before n th NoMemory other h = wanting
 
 pub not_true : {A : Type 0} (b : Bool) → (A → b ≡ true) → b ≡ false → A → ⊥
 not_true b k e x = let t = k x in cc

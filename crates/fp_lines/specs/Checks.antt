@@ -58,30 +58,30 @@ abbrev pub Proof : Type 0
 Proof = Result Theorem ProofFault
 
 -- what comes of further lines, of which the first has that number, behind the theorems of those before
-pub data Goes (defs : List Def) (named : List (List ℕ × Theorem)) (given : List (List ℕ × Typ)) (statement : Tm) : List Theorem → ℕ → List Line → Proof → Type 0 where
+pub data Goes (defs : List Def) (named : List (List ℕ × Theorem)) (simps : List (List ℕ)) (given : List (List ℕ × Typ)) (statement : Tm) : List Theorem → ℕ → List Line → Proof → Type 0 where
   next : {before : List Theorem} {n : ℕ} {l : Line} {lines : List Line} {r : Proof} (th : Theorem) →
-      Gives (record { defs = defs; named = named; given = given; before = before }) l th → Goes defs named given statement (before ++ th ∷ []) (n + 1) lines r →
-      Goes defs named given statement before n (l ∷ lines) r
+      Gives (record { defs = defs; named = named; simps = simps; given = given; before = before }) l th → Goes defs named simps given statement (before ++ th ∷ []) (n + 1) lines r →
+      Goes defs named simps given statement before n (l ∷ lines) r
   fails : {before : List Theorem} {n : ℕ} {l : Line} {lines : List Line} {f : ProofFault} →
-      LineFails (record { defs = defs; named = named; given = given; before = before }) l n f → Goes defs named given statement before n (l ∷ lines) (Err f)
-  ends : {n : ℕ} (before : List Theorem) (th : Theorem) → IsEnd statement th → Goes defs named given statement (before ++ th ∷ []) n [] (Ok th)
+      LineFails (record { defs = defs; named = named; simps = simps; given = given; before = before }) l n f → Goes defs named simps given statement before n (l ∷ lines) (Err f)
+  ends : {n : ℕ} (before : List Theorem) (th : Theorem) → IsEnd statement th → Goes defs named simps given statement (before ++ th ∷ []) n [] (Ok th)
   ends_otherwise : {n : ℕ} {s : Statement} (before : List Theorem) (th : Theorem) → (IsEnd statement th → ⊥) → IsOf th s →
-      Goes defs named given statement (before ++ th ∷ []) n [] (Err (WrongEnd (Some s)))
-  has_no_lines : {n : ℕ} → Goes defs named given statement [] n [] (Err (WrongEnd None))
-  wanting : {before : List Theorem} {n : ℕ} {lines : List Line} → Goes defs named given statement before n lines (Err NoMemory)
+      Goes defs named simps given statement (before ++ th ∷ []) n [] (Err (WrongEnd (Some s)))
+  has_no_lines : {n : ℕ} → Goes defs named simps given statement [] n [] (Err (WrongEnd None))
+  wanting : {before : List Theorem} {n : ℕ} {lines : List Line} → Goes defs named simps given statement before n lines (Err NoMemory)
 
 -- what comes of the lines, over the free variables of the statement
 abbrev pub Checks : State → Tm → List Line → Proof → Type 0
-Checks state statement lines r = Goes state.defs state.named (variables_of statement) statement [] 1 lines r
+Checks state statement lines r = Goes state.defs state.named state.simps (variables_of statement) statement [] 1 lines r
 
 -- whatever comes of the rest, comes of the whole
-abbrev pub Leads : List Def → List (List ℕ × Theorem) → List (List ℕ × Typ) → Tm → List Theorem → ℕ → List Line → List Line → Type 0
-Leads defs named given statement before n rest lines = (r : Proof) → Goes defs named given statement before n rest r → Goes defs named given statement [] 1 lines r
+abbrev pub Leads : List Def → List (List ℕ × Theorem) → List (List ℕ) → List (List ℕ × Typ) → Tm → List Theorem → ℕ → List Line → List Line → Type 0
+Leads defs named simps given statement before n rest lines = (r : Proof) → Goes defs named simps given statement before n rest r → Goes defs named simps given statement [] 1 lines r
 
 -- the lines give these theorems
-pub record Arrives (defs : List Def) (named : List (List ℕ × Theorem)) (given : List (List ℕ × Typ)) (statement : Tm) (lines : List Line) (ths : List Theorem) : Type 0 where
+pub record Arrives (defs : List Def) (named : List (List ℕ × Theorem)) (simps : List (List ℕ)) (given : List (List ℕ × Typ)) (statement : Tm) (lines : List Line) (ths : List Theorem) : Type 0 where
   pub number : ℕ
-  pub leads : Leads defs named given statement ths number [] lines
+  pub leads : Leads defs named simps given statement ths number [] lines
 
 -- what is told consists of formulas
 pub record AreShown (defs : List Def) (s : Statement) : Type 0 where

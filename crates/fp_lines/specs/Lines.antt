@@ -19,6 +19,8 @@ use Rattle.fp_line_rules.specs.declared.rule.Rule.TheVariants as rule
 use Rattle.fp_lines.specs.Causes.{cause_of}
 use Rattle.fp_lines.specs.Kinds.{theorem_alone, term_alone, two_theorems, term_and_theorem, theorem_and_term, variable_and_theorem, two_terms_and_theorem, variable_and_two_theorems, three_theorems, theorem_and_more, are_term_pairs, are_type_pairs}
 use Rattle.fp_lines.specs.Read.{Scene, signature_in, Answer, theorem_named, Reads, Unread, ReadsPairs, UnreadPairs, Is, types_read}
+use Rattle.fp_declared.specs.Rules.{rewrite_rules}
+use Rattle.fp_simp_eq.specs.Equation.{EquatesSimplified}
 use Rattle.fp_line_rules.specs.Rules.{Told, ByTerm, ByTheorem, ByPair, ByTermThenTheorem, ByTheoremThenTerm, ByVariable, ByChoice, ByWitness, ByCases, ByNothing, ByTerms, ByTypes}
 
 -- what a line tells of what comes of its rule
@@ -59,6 +61,10 @@ LineOfNothing s (a ∷ args) r = r ≡ Err (Bad BadArgs)
 
 abbrev pub LineOfTerm : Scene → OfTerm → List Arg → Answer → Type 0
 LineOfTerm s k args r = With (term_alone args) (λ raw q. Reading s raw (λ t. Tells (ByTerm s.defs k t)) q) r
+
+-- by the declared rules
+abbrev pub LineOfSimp : Scene → List Arg → Answer → Type 0
+LineOfSimp s args r = With (term_alone args) (λ raw q. Reading s raw (λ t. Tells (EquatesSimplified s.defs (rewrite_rules s.named s.simps) t)) q) r
 
 abbrev pub LineOfTheorem : Scene → OfTheorem → List Arg → Answer → Type 0
 LineOfTheorem s k args r = With (theorem_alone args) (λ x q. Finding (theorem_named s x) (λ a. Tells (ByTheorem s.defs k a)) q) r
@@ -129,3 +135,4 @@ LineBy s rule.Choose args r = LineOfChoice s args r
 LineBy s rule.Cases args r = LineOfCases s args r
 LineBy s rule.Inst args r = LineOfInstance s args r
 LineBy s rule.InstTy args r = LineOfTypeInstance s args r
+LineBy s rule.SimpEq args r = LineOfSimp s args r

@@ -23,10 +23,11 @@ use Rattle.fp_lines.specs.declared.fault.LineFault.TheVariants.{Bad, NoMemory}
 use Rattle.fp_lines.specs.declared.reading.Setting.{Setting}
 use Rattle.fp_lines.specs.Causes.{cause_in_term}
 
--- what a line is read over: the theory's definitions and named theorems, the statement's free variables, and the theorems of the lines before
+-- what a line is read over: the theory's definitions, named theorems and declared rules, the statement's free variables, and the theorems of the lines before
 pub record Scene : Type 0 where
   pub defs : List Def
   pub named : List (List ℕ × Theorem)
+  pub simps : List (List ℕ)
   pub given : List (List ℕ × Typ)
   pub before : List Theorem
 
@@ -34,7 +35,7 @@ abbrev pub signature_in : Scene → Signature
 signature_in s = signature_of s.defs
 
 abbrev pub scene_of : Setting → Scene
-scene_of setting = record { defs = setting.defs.now; named = setting.theory.now.named; given = setting.given.now; before = setting.before.now }
+scene_of setting = record { defs = setting.defs.now; named = setting.theory.now.named; simps = setting.theory.now.simps; given = setting.given.now; before = setting.before.now }
 
 -- what comes of a line
 abbrev pub Answer : Type 0

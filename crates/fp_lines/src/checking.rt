@@ -63,8 +63,8 @@ fn check_lines(
 ) -> Result<Vec<Thm>, ProofFault>
     requires same { defs.now ≡ theory.now.defs }
     requires sound { IsSound (signature_of defs.now) [] given.now }
-    ensures exact { MatchResult result (λ ths. Arrives defs.now theory.now.named given.now statement.now lines.now ths.items)
-        (λ f. Goes defs.now theory.now.named given.now statement.now [] 1 lines.now (Err f)) }
+    ensures exact { MatchResult result (λ ths. Arrives defs.now theory.now.named theory.now.simps given.now statement.now lines.now ths.items)
+        (λ f. Goes defs.now theory.now.named theory.now.simps given.now statement.now [] 1 lines.now (Err f)) }
     ensures lines { IfOk result (λ ths. AreLines defs.now ths.items) }
     ensures shown { IfErr result (FaultShown defs.now) }
 {
@@ -127,7 +127,7 @@ fn last_of(
     mut theorems: Vec<Thm>,
 ) -> Result<Thm, ProofFault>
     requires lines { AreLines defs.now theorems.items }
-    ensures exact { (n : ℕ) → Goes defs.now theory.now.named given.now statement.now theorems.items n [] result }
+    ensures exact { (n : ℕ) → Goes defs.now theory.now.named theory.now.simps given.now statement.now theorems.items n [] result }
     ensures ok { IfOk result (λ th. th ≡ plain defs.now statement.now) }
     ensures shown { IfErr result (FaultShown defs.now) }
 {
@@ -153,7 +153,7 @@ fn proof_over(
 ) -> Result<Thm, ProofFault>
     requires same { defs.now ≡ theory.now.defs }
     requires known { AreTypesIn (signature_of defs.now) given.now }
-    ensures exact { Goes defs.now theory.now.named given.now statement.now [] 1 lines.now result }
+    ensures exact { Goes defs.now theory.now.named theory.now.simps given.now statement.now [] 1 lines.now result }
     ensures ok { IfOk result (λ th. th ≡ plain defs.now statement.now) }
     ensures shown { IfErr result (FaultShown defs.now) }
 {

@@ -4,7 +4,7 @@ ghost use Rattle.fp_kernel.specs.Start.{signature_of};
 ghost use Rattle.fp_infer.specs.Elaborated.{IsSound};
 ghost use Rattle.fp_line_rules.specs.Standing.{IsUsable, IsLine, AreLines};
 ghost use Rattle.fp_lines.specs.Read.{scene_of};
-ghost use Rattle.fp_lines.specs.Lines.{LineOfNothing, LineOfTerm, LineOfTheorem, LineOfPair, LineBeforeTheorem, LineBeforeTerm, LineOfVariable, ExistenceOf, LineOfExistence, ChoiceOf, LineOfChoice, LineOfCases, InstanceOf, LineOfInstance, TypeInstanceOf, LineOfTypeInstance, LineBy};
+ghost use Rattle.fp_lines.specs.Lines.{LineOfNothing, LineOfTerm, LineOfSimp, LineOfTheorem, LineOfPair, LineBeforeTheorem, LineBeforeTerm, LineOfVariable, ExistenceOf, LineOfExistence, ChoiceOf, LineOfChoice, LineOfCases, InstanceOf, LineOfInstance, TypeInstanceOf, LineOfTypeInstance, LineBy};
 ghost use Rattle.fp_lines.specs.Kinds.{are_term_pairs, are_type_pairs};
 
 use crate::arguments::{
@@ -18,7 +18,7 @@ use crate::pairs::{are_term_pairs, are_type_pairs, push_term_pairs, push_type_pa
 use crate::reading::{Setting, term_of, theorem_named};
 use crate::telling::{
     tell_before_term, tell_before_theorem, tell_cases, tell_choice, tell_nothing, tell_pair,
-    tell_term, tell_terms, tell_theorem, tell_types, tell_variable, tell_witness,
+    tell_simp, tell_term, tell_terms, tell_theorem, tell_types, tell_variable, tell_witness,
 };
 use fp_commands::Arg;
 use fp_kernel::Thm;
@@ -51,6 +51,20 @@ fn line_of_term(
     };
     let term = term_of(alloc, setting, raw)?;
     tell_term(alloc, setting.defs, rule, &term)
+}
+
+// By `simp_eq`.
+fn line_of_simp(alloc: Global, setting: &Setting<'_>, args: &[Arg]) -> Result<Thm, LineFault>
+    requires same { setting.now.defs.now ≡ setting.now.theory.now.defs }
+    requires sound { IsSound (signature_of setting.now.defs.now) [] setting.now.given.now }
+    ensures exact { LineOfSimp (scene_of setting.now) args.now result }
+    ensures line { IfOk result (IsLine setting.now.defs.now) }
+{
+    let Some(raw) = term_alone(args) else {
+        return Err(LineFault::Bad(LineCause::BadArgs));
+    };
+    let term = term_of(alloc, setting, raw)?;
+    tell_simp(alloc, setting.theory, &term)
 }
 
 fn line_of_theorem(
@@ -306,5 +320,6 @@ pub(crate) fn line_by(
         Rule::Cases => line_of_cases(alloc, setting, args),
         Rule::Inst => line_of_instance(alloc, setting, args),
         Rule::InstTy => line_of_type_instance(alloc, setting, args),
+        Rule::SimpEq => line_of_simp(alloc, setting, args),
     }
 }

@@ -2,6 +2,8 @@
 ghost use Rattle.std.specs.Prelude.{◌≡◌, IfOk};
 ghost use Rattle.fp_line_rules.specs.Rules.{ByTerm, ByTheorem, ByPair, ByTermThenTheorem, ByTheoremThenTerm, ByVariable, ByChoice, ByWitness, ByCases, ByNothing, ByTerms, ByTypes};
 ghost use Rattle.fp_line_rules.specs.Standing.{IsUsable, IsLine};
+ghost use Rattle.fp_declared.specs.Rules.{rewrite_rules};
+ghost use Rattle.fp_simp_eq.specs.Equation.{EquatesSimplified};
 ghost use Rattle.fp_lines.specs.Lines.{told, Tells};
 
 use crate::fault::LineFault;
@@ -12,7 +14,9 @@ use fp_line_rules::{
     by_cases, by_choice, by_nothing, by_terms, by_types, by_witness, of_pair, of_term, of_theorem,
     of_variable,
 };
+use fp_simp_eq::simp_eq;
 use fp_term::{Name, Term, Ty};
+use fp_theory::Theory;
 use std::alloc::Global;
 
 // The theorem, or the fault's cause.
@@ -39,6 +43,13 @@ pub(crate) fn tell_term(
     ensures line { IfOk result (IsLine defs.now) }
 {
     told(of_term(alloc, defs, rule, term))
+}
+
+pub(crate) fn tell_simp(alloc: Global, theory: &Theory, term: &Term) -> Result<Thm, LineFault>
+    ensures exact { Tells (EquatesSimplified theory.now.defs (rewrite_rules theory.now.named theory.now.simps) term.now) result }
+    ensures line { IfOk result (IsLine theory.now.defs) }
+{
+    told(simp_eq(alloc, theory, term))
 }
 
 pub(crate) fn tell_theorem(

@@ -120,11 +120,28 @@ typedef yes abs to_yes rep of_yes by ex_T
 const YES_LINES: &[u8] =
     b"theorem ex_T: |- (%a. a) T\ntypedef yes_abs_rep: |- to_yes (of_yes a) = a\ntypedef yes_rep_abs: |- (%a. a) r = (of_yes (to_yes r) = r)\n";
 
+// A theorem whose variable isn't in the left side of what it states.
+const UNBOUND_RULE: &[u8] =
+    b"lemma r: \"x = x --> T = T\" proof refl \"T\"; disch \"(x::'a) = x\" 1; end
+simp r";
+
+const UNBOUND_RULE_LINES: &[u8] =
+    b"theorem r: |- x = x --> T = T\nrefused a.hol at 70: NotRuleShape\n";
+
+// A measure that isn't closed, of a type of one value that is named as numbers are.
+const OPEN_MEASURE: &[u8] =
+    b"lemma ex_T: \"(%(x::bool). x) T\" proof truth; beta \"(%(x::bool). x) T\"; sym 2; eq_mp 3 1; end
+typedef nat abs to_nat rep of_nat by ex_T
+measure [nat] \"m\"";
+
+const OPEN_MEASURE_LINES: &[u8] =
+    b"theorem ex_T: |- (%a. a) T\ntypedef nat_abs_rep: |- to_nat (of_nat a) = a\ntypedef nat_rep_abs: |- (%a. a) r = (of_nat (to_nat r) = r)\nrefused a.hol at 135: NotMeasure\n";
+
 // The short form, where the words don't ask for the full one.
 #[test]
 fn short_lines(rt: HostRuntime) -> Result<(), Fail> {
     let alloc = rt.alloc();
-    let rows: [(&[u8], u8, &[u8]); 7] = [
+    let rows: [(&[u8], u8, &[u8]); 9] = [
         (TT, 0, b"definition tt_def: |- tt = (%a. a)\n"),
         (b"", 0, b""),
         (YES, 0, YES_LINES),
@@ -148,6 +165,8 @@ fn short_lines(rt: HostRuntime) -> Result<(), Fail> {
             1,
             b"refused a.hol at 0: Syntax\n",
         ),
+        (UNBOUND_RULE, 1, UNBOUND_RULE_LINES),
+        (OPEN_MEASURE, 1, OPEN_MEASURE_LINES),
     ];
     for (bytes, status, written) in rows {
         try_row(

@@ -24,7 +24,7 @@ returns-then-ends_at-clause-exact c = λ n. rw c.in-Some.ensures.items (ends c.p
 pub returns-in-Some-clause-exact : goal.returns-in-Some-clause-exact
 returns-in-Some-clause-exact c = λ n.
     rw c.in-Some.ensures.items
-    (otherwise c.args.defs.now c.args.theory.now.named c.args.given.now c.args.statement.now c.pop.new.self.items n c.in-Some.theorem c.wrong_end.result
+    (otherwise c.args.defs.now c.args.theory.now.named c.args.theory.now.simps c.args.given.now c.args.statement.now c.pop.new.self.items n c.in-Some.theorem c.wrong_end.result
     (not_true c.ends_at.result c.ends_at.ensures.1 c.if-ends_at.false) c.wrong_end.ensures.exact)
 
 pub returns-clause-exact : goal.returns-clause-exact

@@ -1,0 +1,6 @@
+use Rattle.std.specs.List.{All}
+use Rattle.fp_rewriting.specs.Stated.{IsStated}
+use Rattle.fp_simp_goals.proofs.answer.rules_of.Given as goal
+
+abbrev pub invariant-loop-theorem : goal.invariant-loop-theorem
+invariant-loop-theorem l = All IsStated l.rules.items
