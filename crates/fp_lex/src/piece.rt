@@ -75,7 +75,7 @@ fn comment(rest: &[u8]) -> Piece
     Piece::Between(rest.len() + 1)
 }
 
-// Behind a brace.
+// Behind a brace. No byte behind the one that closes it is looked at.
 fn braces_of(rest: &[u8]) -> Piece
     requires { length rest.now < 4294967296 }
     ensures { piece_of result ≡ braces rest.now }
@@ -84,7 +84,7 @@ fn braces_of(rest: &[u8]) -> Piece
     if inside == rest.len() {
         return Piece::Open;
     }
-    let allowed = run(rest, Class::Allowed);
+    let allowed = run(&rest[..inside], Class::Allowed);
     if allowed < inside {
         Piece::Bad(allowed + 1)
     } else {
