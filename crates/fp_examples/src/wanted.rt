@@ -1,5 +1,4 @@
 //! What is wanted of a run: its status, its words and its text.
-ghost use Rattle.std.specs.Prelude.{◌<◌, ◌-◌, ◌^◌};
 
 use fp_outside::{RealFiles, read_all};
 use std::alloc::{AllocError, Global};
@@ -23,6 +22,16 @@ fn words_of(alloc: Global, line: &str) -> Result<Vec<String>, AllocError> {
     Ok(words)
 }
 
+// The ending of the files whose texts are wanted.
+fn ending_of(words: &[String]) -> &'static str {
+    for word in words {
+        if word.as_str() == "--full" {
+            return ".full";
+        }
+    }
+    ".out"
+}
+
 // Puts the text that stands beside the theory file at the end.
 fn push_text(rt: &HostRuntime, text: &mut Vec<u8>, stem: &str, ending: &str) -> Option<()> {
     let name = format!(in rt.alloc(); "{stem}{ending}").ok()?;
@@ -36,11 +45,7 @@ pub(crate) fn wanted_of(rt: &HostRuntime, line: &str) -> Option<Wanted> {
     let (status, words) = line.split_once(' ')?;
     let status = status.parse::<u8>().ok()?;
     let words = words_of(rt.alloc(), words).ok()?;
-    let ending = if words.iter().any(|word| word.as_str() == "--full") {
-        ".full"
-    } else {
-        ".out"
-    };
+    let ending = ending_of(&words);
     let mut text = Vec::new(rt.alloc());
     for word in &words {
         if let Some(stem) = word.as_str().strip_suffix(".hol") {
