@@ -4,7 +4,7 @@ if exists("b:current_syntax")
 endif
 syntax keyword funpackCommand definition typedef lemma simp cong constructors size measure fun function
 syntax keyword funpackWord and where proof end abs rep by if then else
-syntax keyword funpackLine refl sym trans mk_comb ap ap_arg lam beta ext norm rewrite assume disch undisch mp eq_mp antisym truth eqt
+syntax keyword funpackLine refl sym trans mk_comb ap ap_arg lam beta ext norm rewrite simp_eq assume disch undisch mp eq_mp antisym truth eqt
 syntax keyword funpackLine eqt_elim eqf conj conj1 conj2 disj1 disj2 cases not_intro not_elim gen spec exists choose select inst inst_ty false
 syntax match funpackTypeVariable /'\h[A-Za-z0-9_']*/
 syntax match funpackNumber /\<\d\+\>/
