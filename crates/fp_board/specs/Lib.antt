@@ -1,0 +1,4 @@
+pub mod Agreement
+pub mod Answers
+pub mod Closing
+pub mod Seats
