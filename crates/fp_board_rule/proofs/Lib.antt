@@ -2,3 +2,5 @@ pub mod Words
 pub mod Moves
 pub mod Changes
 pub mod Shows
+pub mod Events
+pub mod Keeps
