@@ -4,3 +4,5 @@ pub mod Changes
 pub mod Shows
 pub mod Events
 pub mod Keeps
+pub mod Seats
+pub mod Ends
