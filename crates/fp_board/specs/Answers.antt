@@ -1,9 +1,9 @@
 -- What each answer says of the seat before and after: of its view, the cell and the view afterwards.
-use Rattle.std.specs.Prelude.{◌≡◌, ◌≢◌, ℕ, ◌+◌, List}
+use Rattle.std.specs.Prelude.{◌≡◌, ◌≢◌, ℕ, ◌+◌}
 use Rattle.fp_order.specs.declared.entry.Entry.{Entry}
 use Rattle.fp_board_rule.specs.declared.view.View.{View}
-use Rattle.fp_board_rule.specs.Words.{code, word_at}
-use Rattle.fp_board_rule.specs.Steps.{Finds, Grows, SameRank, Sees, IsAlone, claiming, idle, learned}
+use Rattle.fp_board_rule.specs.Words.{code}
+use Rattle.fp_board_rule.specs.Steps.{Finds, claiming, idle, learned}
 use Rattle.fp_board.specs.declared.answers.Claim.{Claim}
 use Rattle.fp_board.specs.declared.answers.Claim.TheVariants.{Claimed, Taken}
 use Rattle.fp_board.specs.declared.answers.Settle.{Settle}
@@ -32,13 +32,3 @@ IsCancel v k expected (Found x) w = Finds v k x × (x ≢ expected) × (w ≡ v)
 abbrev pub IsQuit : View → ℕ → Quit → View → Type 0
 IsQuit v k quit.Freed w = Finds v k (8 + v.number) × (w ≡ idle v)
 IsQuit v k quit.WasCancelled w = Finds v k 1 × (w ≡ idle v)
-
--- the seat with the view v and these words has loaded the word of k
-pub record IsLoaded (v : View) (k : ℕ) (words : List ℕ) (w : View) (after : List ℕ) : Type 0 where
-  pub rank : SameRank v w
-  pub grows : Grows v w
-  pub sees : Sees w k (word_at after k)
-  pub finds : Finds w k (word_at after k)
-  pub others : (j : ℕ) → j ≢ k → word_at after j ≡ word_at words j
-  pub still : (j x : ℕ) → j ≢ k → Finds v j x → Finds w j x
-  pub alone : IsAlone v → (w.known ≡ v.known) × (w.noted ≡ v.noted)

@@ -1,8 +1,6 @@
 -- Which seat is one of which board.
-use Rattle.std.specs.Prelude.{◌≡◌, ℕ, List, length, Option, Some, true, ◌⊎◌}
-use Rattle.fp_order.specs.declared.entry.Entry.{Entry}
+use Rattle.std.specs.Prelude.{◌≡◌, length}
 use Rattle.fp_board_rule.specs.declared.view.View.{View}
-use Rattle.fp_board_rule.specs.Words.{known_in, noted_in}
 use Rattle.fp_board_rule.specs.Rule.{count_of}
 use Rattle.fp_board.specs.declared.board.Board.{Board}
 use Rattle.fp_board.specs.declared.seat.Seat.{Seat}
@@ -18,10 +16,6 @@ pub record IsOf (board : Board) (seat : Seat) : Type 0 where
   pub known_long : length (view_of seat).known ≡ count_of board.plan
   pub noted_long : length (view_of seat).noted ≡ count_of board.plan
   pub words_long : length seat.words.items ≡ count_of board.plan
-
--- the cell is known, or noted as cancelled
-abbrev pub IsDone : View → ℕ → Type 0
-IsDone v k = ((e : Entry) × (known_in v.known k ≡ Some e)) ⊎ (noted_in v.noted k ≡ true)
 
 -- the seat has made no refresh since this one
 pub record IsLast (fresh : Fresh) (seat : Seat) : Type 0 where

@@ -1,5 +1,5 @@
 -- What a seat knows after a step, and that the rule holds then.
-use Rattle.std.proofs.Common.{◌≡◌, ℕ, zero, suc, ◌+◌, ◌<◌, ◌≤◌, ◌≢◌, ◌⊎◌, List, [], ◌∷◌, length, set, sym, refl, ap, ◌∙◌, subst, inl, inr, ⊎_elim, arith, length-set, get_or-set_same, eqb, eq-eqb, Bool, true, false, Option, Some, None}
+use Rattle.std.proofs.Common.{◌≡◌, ℕ, zero, suc, ◌+◌, ◌<◌, ◌≤◌, ◌≢◌, ◌⊎◌, List, [], ◌∷◌, length, set, sym, refl, ap, ◌∙◌, subst, inl, inr, ⊎_elim, arith, length-set, get_or-set_same, get_or-set_other, eqb, eq-eqb, Bool, true, false, Option, Some, None}
 use mathlib.Core.Logic.{dite}
 use mathlib.Core.Option.{some}
 use native.Mathlib.Decide.{ℕ_discrete, dec_le}
@@ -23,11 +23,11 @@ set_was (x ∷ xs) zero (suc j) a d c e = inl e
 set_was (x ∷ xs) (suc k) zero a d c e = inl e
 set_was (x ∷ xs) (suc k) (suc j) a d c e = ⊎_elim (λ p. inl p) (λ (p : (j ≡ k) × (a ≡ c)). inr (ap suc p.0, p.1)) (set_was xs k j a d c e)
 
-knowing_was : (xs : List (Option Entry)) (k : ℕ) (o : Option Entry) (j : ℕ) (e : Entry) → known_in (knowing xs k o) j ≡ Some e → (known_in xs j ≡ Some e) ⊎ ((j ≡ k) × (o ≡ Some e))
+pub knowing_was : (xs : List (Option Entry)) (k : ℕ) (o : Option Entry) (j : ℕ) (e : Entry) → known_in (knowing xs k o) j ≡ Some e → (known_in xs j ≡ Some e) ⊎ ((j ≡ k) × (o ≡ Some e))
 knowing_was xs k None j e is = inl is
 knowing_was xs k (Some a) j e is = set_was xs k j (Some a) None (Some e) is
 
-knowing_here : (xs : List (Option Entry)) (k : ℕ) (o : Option Entry) (e : Entry) → k < length xs → o ≡ Some e → known_in (knowing xs k o) k ≡ Some e
+pub knowing_here : (xs : List (Option Entry)) (k : ℕ) (o : Option Entry) (e : Entry) → k < length xs → o ≡ Some e → known_in (knowing xs k o) k ≡ Some e
 knowing_here xs k None e h is = let w : None ≡ Some e = is in cc
 knowing_here xs k (Some a) e h is = get_or-set_same xs k (Some a) None h ∙ is
 
@@ -35,22 +35,15 @@ pub length-knowing : (xs : List (Option Entry)) (k : ℕ) (o : Option Entry) →
 length-knowing xs k None = refl
 length-knowing xs k (Some a) = length-set xs k (Some a)
 
-knowing_other : (xs : List (Option Entry)) (k : ℕ) (o : Option Entry) (j : ℕ) → j ≢ k → known_in (knowing xs k o) j ≡ known_in xs j
+pub knowing_other : (xs : List (Option Entry)) (k : ℕ) (o : Option Entry) (j : ℕ) → j ≢ k → known_in (knowing xs k o) j ≡ known_in xs j
 knowing_other xs k None j ne = refl
-knowing_other xs k (Some a) j ne = get_or-set_other' xs k j (Some a) None ne
-  where
-    get_or-set_other' : {A : Type 0} (l : List A) (i j : ℕ) (a d : A) → j ≢ i → get_or (set l i a) j d ≡ get_or l j d
-    get_or-set_other' [] i j a d ne = refl
-    get_or-set_other' (x ∷ xs) zero zero a d ne = absurd (ne refl)
-    get_or-set_other' (x ∷ xs) zero (suc j) a d ne = refl
-    get_or-set_other' (x ∷ xs) (suc i) zero a d ne = refl
-    get_or-set_other' (x ∷ xs) (suc i) (suc j) a d ne = get_or-set_other' xs i j a d (λ e. ne (ap suc e))
+knowing_other xs k (Some a) j ne = get_or-set_other xs k j (Some a) None ne
 
-noting_was : (xs : List Bool) (k : ℕ) (b : Bool) (j : ℕ) → noted_in (noting xs k b) j ≡ true → (noted_in xs j ≡ true) ⊎ ((j ≡ k) × (b ≡ true))
+pub noting_was : (xs : List Bool) (k : ℕ) (b : Bool) (j : ℕ) → noted_in (noting xs k b) j ≡ true → (noted_in xs j ≡ true) ⊎ ((j ≡ k) × (b ≡ true))
 noting_was xs k false j is = inl is
 noting_was xs k true j is = set_was xs k j true false true is
 
-noting_here : (xs : List Bool) (k : ℕ) (b : Bool) → k < length xs → b ≡ true → noted_in (noting xs k b) k ≡ true
+pub noting_here : (xs : List Bool) (k : ℕ) (b : Bool) → k < length xs → b ≡ true → noted_in (noting xs k b) k ≡ true
 noting_here xs k false h is = let w : false ≡ true = is in cc
 noting_here xs k true h is = get_or-set_same xs k true false h
 
@@ -65,7 +58,11 @@ set_stays (x ∷ xs) zero (suc j) is = is
 set_stays (x ∷ xs) (suc k) zero is = is
 set_stays (x ∷ xs) (suc k) (suc j) is = set_stays xs k j is
 
-noting_more : (xs : List Bool) (k : ℕ) (b : Bool) (j : ℕ) → noted_in xs j ≡ true → noted_in (noting xs k b) j ≡ true
+pub noting_other : (xs : List Bool) (k : ℕ) (b : Bool) (j : ℕ) → j ≢ k → noted_in (noting xs k b) j ≡ noted_in xs j
+noting_other xs k false j ne = refl
+noting_other xs k true j ne = get_or-set_other xs k j true false ne
+
+pub noting_more : (xs : List Bool) (k : ℕ) (b : Bool) (j : ℕ) → noted_in xs j ≡ true → noted_in (noting xs k b) j ≡ true
 noting_more xs k false j is = is
 noting_more xs k true j is = set_stays xs k j is
 

@@ -25,7 +25,7 @@ Rule plan s = Kept plan s.words s.views
 abbrev Goes : Plan → State ℕ View → ℕ → ℕ → Sat → (ℕ → Sat → Type 0) → ℕ → Type 0
 Goes plan s i id m then y = (w : View) × (a : Act ℕ) × Valid s.homes m.1 a × Rule plan (stepped s i y id m.1 w a) × then (word_at s.words i) (w, carried_after m.1 a)
 
-true_eq : (n m : ℕ) → eqb n m ≡ true → n ≡ m
+pub true_eq : (n m : ℕ) → eqb n m ≡ true → n ≡ m
 true_eq n m e = dite (ℕ_discrete n m) (λ s. s) (λ ne. let w : false ≡ true = sym (ne_eqb n m ne) ∙ e in cc)
 
 word_low : (plan : Plan) (k x : ℕ) → IsWord plan k x → (x < 5) ⊎ ((8 < x) × (x ≤ 24))

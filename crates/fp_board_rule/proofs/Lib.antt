@@ -6,3 +6,4 @@ pub mod Events
 pub mod Keeps
 pub mod Seats
 pub mod Ends
+pub mod Loads

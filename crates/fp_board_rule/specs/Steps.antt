@@ -3,7 +3,7 @@ use Rattle.std.specs.Prelude.{◌≡◌, ◌≢◌, ℕ, ◌+◌, ◌<◌, ◌�
 use Rattle.atomic_table.specs.Table.{Me, Step}
 use Rattle.fp_order.specs.declared.entry.Entry.{Entry}
 use Rattle.fp_board_rule.specs.declared.view.View.{View}
-use Rattle.fp_board_rule.specs.Words.{code, entry_of, known_in, noted_in}
+use Rattle.fp_board_rule.specs.Words.{code, entry_of, word_at, known_in, noted_in}
 
 abbrev pub Sat : Type 0
 Sat = Me ℕ View
@@ -121,3 +121,25 @@ pub record SameRank (v w : View) : Type 0 where
 pub record Sees (v : View) (k x : ℕ) : Type 0 where
   pub knows : (e : Entry) → entry_of x ≡ Some e → known_in v.known k ≡ Some e
   pub notes : x ≡ 1 → noted_in v.noted k ≡ true
+
+-- the seat with the view v and these words has loaded the word of k
+pub record IsLoaded (v : View) (k : ℕ) (words : List ℕ) (w : View) (loaded_words : List ℕ) : Type 0 where
+  pub rank : SameRank v w
+  pub grows : Grows v w
+  pub sees : Sees w k (word_at loaded_words k)
+  pub finds : Finds w k (word_at loaded_words k)
+  pub others : (j : ℕ) → j ≢ k → word_at loaded_words j ≡ word_at words j
+  pub still : (j x : ℕ) → j ≢ k → Finds v j x → Finds w j x
+  pub alone : IsAlone v → (w.known ≡ v.known) × (w.noted ≡ v.noted)
+
+-- a seat with the view v has loaded the words of the first n cells; one that is alone learns nothing
+pub record IsRefreshed (v w : View) (words : List ℕ) (n : ℕ) : Type 0 where
+  pub rank : SameRank v w
+  pub grows : Grows v w
+  pub sees : (k : ℕ) → k < n → Sees w k (word_at words k)
+  pub finds : (k : ℕ) → k < n → Finds w k (word_at words k)
+  pub alone : IsAlone v → (w.known ≡ v.known) × (w.noted ≡ v.noted)
+
+-- the cell is known, or noted as cancelled
+abbrev pub IsDone : View → ℕ → Type 0
+IsDone v k = ((e : Entry) × (known_in v.known k ≡ Some e)) ⊎ (noted_in v.noted k ≡ true)
