@@ -1,12 +1,12 @@
 //! The board.
 
-ghost use Rattle.std.specs.Prelude.{◌≡◌, ◌≢◌, ◌×◌, ℕ, ◌+◌, ◌<◌, ◌≤◌, ◌⊎◌, [], length, IfOk, IfErr, Some, None, slice_get};
+ghost use Rattle.std.specs.Prelude.{◌≡◌, ◌≢◌, ℕ, ◌+◌, ◌<◌, ◌≤◌, ◌⊎◌, [], length, IfOk, IfErr, Some, None, slice_get};
 ghost use Rattle.fp_order.specs.Grid.{cells_of, IsGrid};
 ghost use Rattle.fp_shown.specs.Shown.{IsShown};
 ghost use Rattle.fp_board_rule.specs.Words.{word_at};
 ghost use Rattle.fp_board_rule.specs.Rule.{count_of, IsPlan, IsVerdictOf, first_of, first_view};
-ghost use Rattle.fp_board_rule.specs.Steps.{learned, looks_after, IsAlone, left_part, right_part, taken_in, Finds, Grows, SameRank, Sees};
-ghost use Rattle.fp_board.specs.Answers.{IsClaim, IsSettle, IsCancel, IsQuit, IsLoaded};
+ghost use Rattle.fp_board_rule.specs.Steps.{learned, looks_after, left_part, right_part, taken_in, IsAlone, IsDone, IsLoaded, IsRefreshed, Finds, Grows};
+ghost use Rattle.fp_board.specs.Answers.{IsClaim, IsSettle, IsCancel, IsQuit};
 
 use crate::answers::{Cancel, Claim, Quit, Settle};
 use crate::closed::Closed;
@@ -50,7 +50,7 @@ fn new_parts(alloc: Global, count: usize) -> Result<(Partial, Vec<bool>, Vec<u64
 }
 
 impl Board {
-    ghost use Rattle.fp_board.specs.Seats.{IsOf, IsDone, IsLast, view_of};
+    ghost use Rattle.fp_board.specs.Seats.{IsOf, IsLast, view_of};
 
     pub fn grid(&self) -> &Grid
         ensures { result.now ≡ self.now.plan.grid }
@@ -157,11 +157,7 @@ impl Board {
         requires of { IsOf self.now seat.old }
         ensures of { IsOf self.now seat.new }
         ensures last { IsLast result seat.new }
-        ensures rank { SameRank (view_of seat.old) (view_of seat.new) }
-        ensures grows { Grows (view_of seat.old) (view_of seat.new) }
-        ensures sees { (k : ℕ) → k < count_of self.now.plan → Sees (view_of seat.new) k (word_at seat.new.words.items k) }
-        ensures finds { (k : ℕ) → k < count_of self.now.plan → Finds (view_of seat.new) k (word_at seat.new.words.items k) }
-        ensures alone { IsAlone (view_of seat.old) → ((view_of seat.new).known ≡ (view_of seat.old).known) × ((view_of seat.new).noted ≡ (view_of seat.old).noted) }
+        ensures told { IsRefreshed (view_of seat.old) (view_of seat.new) seat.new.words.items (count_of self.now.plan) }
     {
         if self.count > 0 {
             let last = (self.count - 1) as usize;

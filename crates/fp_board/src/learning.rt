@@ -1,6 +1,6 @@
 //! What is taken in of words and of other seats.
 
-ghost use Rattle.std.specs.Prelude.{◌≡◌, ◌×◌, ◌<◌, ◌==◌, vec_len, length, replicate, IfOk};
+ghost use Rattle.std.specs.Prelude.{◌≡◌, ◌<◌, ◌==◌, vec_len, length, replicate, IfOk};
 ghost use Rattle.fp_board_rule.specs.Words.{code, entry_of};
 ghost use Rattle.fp_board_rule.specs.Steps.{knowing, noting, known_both, noted_both, or_known};
 

@@ -1,6 +1,6 @@
 //! A seat at a board: what one worker knows of the cells.
 
-ghost use Rattle.std.specs.Prelude.{◌≡◌, ◌×◌, ◌<◌, ◌≤◌, [], length};
+ghost use Rattle.std.specs.Prelude.{◌≡◌, ◌<◌, ◌≤◌, [], length};
 ghost use Rattle.fp_board_rule.specs.Words.{word_at, noted_in};
 ghost use Rattle.fp_board.specs.Agreement.{Agrees};
 
