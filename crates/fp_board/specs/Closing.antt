@@ -1,6 +1,7 @@
 -- What a closed board shows.
 use Rattle.std.specs.Prelude.{◌≡◌, ℕ, ◌<◌, ◌⊎◌, List, length, replicate, Option, Some, None}
 use Rattle.fp_order.specs.declared.entry.Entry.{Entry}
+use Rattle.fp_shown.specs.declared.partial.Partial.{Partial}
 use Rattle.fp_shown.specs.declared.state.CellState.{CellState}
 use Rattle.fp_shown.specs.declared.state.CellState.TheVariants.{Free}
 use Rattle.fp_shown.specs.declared.state.Event.{Event}
@@ -11,6 +12,11 @@ use Rattle.fp_shown.specs.Shown.{IsShown}
 use Rattle.fp_board_rule.specs.declared.plan.Plan.{Plan}
 use Rattle.fp_board_rule.specs.Words.{known_in}
 use Rattle.fp_board_rule.specs.Rule.{count_of, IsPlan, AreVerdicts, IsVerdictOf}
+
+-- what a board was made for, and what is known of its cells
+pub record ClosedBoard : Type 0 where
+  pub plan : Plan
+  pub partial : Partial
 
 -- the cell is known with its verdict, or it is shown by the known ones
 abbrev pub IsClosedCell : Plan → List (Option Entry) → ℕ → Type 0

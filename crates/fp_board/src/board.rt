@@ -152,6 +152,20 @@ impl Board {
         seat.words[k] = word;
     }
 
+    /// Loads the word of every cell, of which there are some.
+    fn load_all(&self, seat: &mut Seat)
+        requires of { IsOf self.now seat.old }
+        requires cells { 0 < count_of self.now.plan }
+        ensures of { IsOf self.now seat.new }
+        ensures told { IsRefreshed (view_of seat.old) (view_of seat.new) seat.new.words.items (count_of self.now.plan) }
+    {
+        let last = (self.count - 1) as usize;
+        for k in 0..last {
+            self.load_one(seat, k);
+        }
+        self.load_last(seat, last);
+    }
+
     /// Loads the word of every cell. A seat that is alone learns nothing new.
     pub fn refresh(&self, seat: &mut Seat) -> Fresh
         requires of { IsOf self.now seat.old }
@@ -160,11 +174,7 @@ impl Board {
         ensures told { IsRefreshed (view_of seat.old) (view_of seat.new) seat.new.words.items (count_of self.now.plan) }
     {
         if self.count > 0 {
-            let last = (self.count - 1) as usize;
-            for k in 0..last {
-                self.load_one(seat, k);
-            }
-            self.load_last(seat, last);
+            self.load_all(seat);
         }
         Fresh {
             at: Snapshot::of(&seat.token),
@@ -314,11 +324,9 @@ impl Board {
         learn_noted(&mut seat.noted, &noted);
     }
 
-    /// Ends the board, where its first seat has taken in all others, holds no claim, and has each cell known or noted.
+    /// Ends the board, where the seat has each cell known or noted.
     pub fn close(self, seat: Seat) -> Closed
         requires of { IsOf self seat }
-        requires alone { IsAlone (view_of seat) }
-        requires idle { (view_of seat).claim ≡ None }
         requires all { (k : ℕ) → k < count_of self.plan → IsDone (view_of seat) k }
         ensures plan { result.plan ≡ self.plan }
         ensures known { result.partial.known.items ≡ (view_of seat).known }
@@ -339,9 +347,6 @@ impl Board {
         } = seat;
         let closed = table.close_with(token);
         closed.free();
-        Closed {
-            plan,
-            partial: known,
-        }
+        Closed::of(plan, known)
     }
 }

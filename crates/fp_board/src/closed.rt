@@ -9,16 +9,37 @@ use fp_order::Grid;
 use fp_rewriting::RuleSet;
 use fp_shown::Partial;
 use fp_simp::CellData;
+use std::marker::Model;
 
 /// What is known of the cells of a board on which each cell was settled or cancelled.
 #[derive(Drop)]
 pub struct Closed {
-    pub(crate) plan: Plan,
-    pub(crate) partial: Partial,
-    pub ghost closed: { IsClosedBoard plan partial.known.items },
+    plan: Plan,
+    partial: Partial,
+}
+
+impl Model for Closed {
+    ghost use Rattle.fp_board.specs.Codes.{coded_board};
+    ghost use Rattle.fp_board.specs.Closing.{ClosedBoard, IsClosedBoard};
+
+    ghost Value = { ClosedBoard };
+
+    ghost coded = { coded_board };
+
+    ghost view = { λ c. record { plan = c.plan; partial = c.partial } };
+
+    ghost invariant = { λ c. IsClosedBoard c.plan c.partial.known.items };
 }
 
 impl Closed {
+    /// The board with nothing left to do.
+    pub(crate) fn of(plan: Plan, partial: Partial) -> Closed
+        requires { IsClosedBoard plan partial.known.items }
+        ensures { result ≡ record { plan = plan; partial = partial } }
+    {
+        Closed { plan, partial }
+    }
+
     pub fn grid(&self) -> &Grid
         ensures { result.now ≡ self.now.plan.grid }
     {

@@ -1,6 +1,6 @@
 use Rattle.fp_board.specs.Seats.{IsOf, view_of}
 use Rattle.fp_board_rule.specs.Steps.{IsRefreshed}
-use Rattle.fp_board.proofs.board.Board.refresh.Given as goal
+use Rattle.fp_board.proofs.board.Board.load_all.Given as goal
 
 abbrev pub invariant-loop-k : goal.invariant-loop-k
 invariant-loop-k l = record {
