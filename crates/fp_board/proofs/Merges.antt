@@ -1,5 +1,5 @@
 -- Two lists put together, an element at a time.
-use Rattle.std.proofs.Common.{◌≡◌, ℕ, zero, suc, ◌+◌, ◌<◌, ◌≤◌, List, [], ◌∷◌, length, set, take, sym, refl, ap, ◌∙◌, arith, add-one}
+use Rattle.std.proofs.Common.{◌≡◌, ℕ, zero, suc, ◌+◌, ◌<◌, List, [], ◌∷◌, length, set, take, sym, refl, ap, ◌∙◌, arith, add-one}
 use lib.ListN.{get_or}
 use Rattle.fp_board_rule.specs.Steps.{both}
 

@@ -2,7 +2,6 @@
 use denote.Struct.Declared.{shape}
 use denote.Param.Send.{IsSend, IsSync, AllSend, AllSync, sendable, view_send, view_sync, recorded_send, recorded_sync, struct_send, struct_sync}
 use Rattle.std.proofs.Crossing.{crosses}
-use Rattle.atomic_table.proofs.owned.Table.TheSendSync as table
 use Rattle.atomic_table.proofs.shared.Shared.TheSendSync as shared
 use Rattle.atomic_table.proofs.send_lease.SendLease.TheSendSync as lease
 use Rattle.fp_shown.specs.contracts.partial.Partial as partial

@@ -1,5 +1,5 @@
 -- What a seat knows after a step, and that the rule holds then.
-use Rattle.std.proofs.Common.{◌≡◌, ℕ, zero, suc, ◌+◌, ◌<◌, ◌≤◌, ◌≢◌, ◌⊎◌, List, [], ◌∷◌, length, set, sym, refl, ap, ◌∙◌, subst, inl, inr, ⊎_elim, arith, length-set, get_or-set_same, get_or-set_other, eqb, eq-eqb, Bool, true, false, Option, Some, None}
+use Rattle.std.proofs.Common.{◌≡◌, ℕ, zero, suc, ◌+◌, ◌<◌, ◌≢◌, ◌⊎◌, List, [], ◌∷◌, length, set, sym, refl, ap, ◌∙◌, subst, inl, inr, ⊎_elim, arith, length-set, get_or-set_same, get_or-set_other, eqb, eq-eqb, Bool, true, false, Option, Some, None}
 use mathlib.Core.Logic.{dite}
 use mathlib.Core.Option.{some}
 use native.Mathlib.Decide.{ℕ_discrete, dec_le}
@@ -11,10 +11,10 @@ use Rattle.fp_shown.specs.Shown.{IsShown}
 use Rattle.fp_board_rule.specs.declared.plan.Plan.{Plan}
 use Rattle.fp_board_rule.specs.declared.view.View.{View}
 use Rattle.fp_board_rule.specs.Words.{code, entry_of, word_at, known_in, noted_in, settled_words}
-use Rattle.fp_board_rule.specs.Rule.{count_of, AreVerdicts, IsWord, IsReached, Fits, Has, Headed, Kept}
+use Rattle.fp_board_rule.specs.Rule.{count_of, AreVerdicts, IsWord, IsReached, Fits, Has, Kept}
 use Rattle.fp_board_rule.specs.Steps.{knowing, noting, IsAlone, Grows, Sees}
 use Rattle.fp_board_rule.proofs.Words.{entry_of-code, settled_at}
-use Rattle.fp_board_rule.proofs.Moves.{Moves, Within, moved, same_at}
+use Rattle.fp_board_rule.proofs.Moves.{Within, moved, same_at}
 
 set_was : {A : Type 0} (xs : List A) (k j : ℕ) (a d c : A) → get_or (set xs k a) j d ≡ c → (get_or xs j d ≡ c) ⊎ ((j ≡ k) × (a ≡ c))
 set_was [] k j a d c e = inl e

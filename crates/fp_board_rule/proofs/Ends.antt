@@ -1,11 +1,7 @@
 -- What a seat that is alone has once each cell is known or noted by it.
-use Rattle.std.proofs.Common.{◌≡◌, ℕ, zero, suc, ◌+◌, ◌<◌, ◌≤◌, ◌≢◌, ◌⊎◌, List, [], ◌∷◌, length, replicate, sym, refl, ap, ◌∙◌, subst, inl, inr, ⊎_elim, arith, true, Option, Some, None}
-use mathlib.Core.Option.{some}
-use lib.ListN.{get_elem?}
-use Rattle.atomic_table.specs.Table.{State, Final, Seen}
+use Rattle.std.proofs.Common.{◌≡◌, ℕ, suc, ◌<◌, ◌⊎◌, List, [], ◌∷◌, length, sym, refl, ap, ◌∙◌, subst, inl, inr, ⊎_elim, arith, true, Option, Some, None}
 use Rattle.fp_order.specs.declared.entry.Entry.{Entry}
 use Rattle.fp_shown.specs.declared.state.CellState.{CellState}
-use Rattle.fp_shown.specs.declared.state.CellState.TheVariants.{Free, Settled, Cancelled}
 use Rattle.fp_shown.specs.Effect.{SameResult}
 use Rattle.fp_shown.specs.Fillings.{IsFilling}
 use Rattle.fp_shown.specs.Machine as machine
@@ -13,12 +9,11 @@ use Rattle.fp_shown.specs.Shown.{IsShown}
 use Rattle.fp_shown.proofs.Plays.{closed_result}
 use Rattle.fp_board_rule.specs.declared.plan.Plan.{Plan}
 use Rattle.fp_board_rule.specs.declared.view.View.{View}
-use Rattle.fp_board_rule.specs.Words.{code, entry_of, state_of, word_at, known_in, noted_in, settled_words, states_of}
+use Rattle.fp_board_rule.specs.Words.{entry_of, state_of, word_at, known_in, noted_in, settled_words, states_of}
 use Rattle.fp_board_rule.specs.Steps.{IsDone}
 use Rattle.fp_board_rule.specs.Rule.{count_of, AreVerdicts, IsVerdictOf, Fits, Kept}
 use Rattle.fp_board_rule.proofs.Words.{code_low, entry_of-code, state_of-code, settled_at, states_at, length_settled, length_states, settled_states}
 use Rattle.fp_board_rule.proofs.Shows.{verdict_at, shows_board}
-use Rattle.fp_board_rule.proofs.Keeps.{Rule}
 
 -- lists that have the same at each place are one
 same_lists : (xs ys : List (Option Entry)) → length xs ≡ length ys → ((k : ℕ) → k < length xs → known_in xs k ≡ known_in ys k) → xs ≡ ys
@@ -40,8 +35,8 @@ pub knows_settled : (plan : Plan) (ws : List ℕ) (views : List View) (v : View)
 knows_settled plan ws views v r f all = let n : ℕ = count_of plan in
     let long : length (settled_words n ws) ≡ n = length_settled n ws r.long in
     same_lists (settled_words n ws) v.known (long ∙ sym f.known_long) (λ k l. let near : k < n = subst (λ (q : ℕ). k < q) long l in
-        settled_at n ws k near ∙ ⊎_elim (λ (p : (e : Entry) × (known_in v.known k ≡ Some e)). ap entry_of (f.known k p.0 p.1) ∙ (entry_of-code p.0 ∙ sym p.1))
-            (λ (p : noted_in v.noted k ≡ true). ap entry_of (f.noted k p) ∙ sym (noted_unknown plan ws v k f p)) (all k near))
+    settled_at n ws k near ∙ ⊎_elim (λ (p : (e : Entry) × (known_in v.known k ≡ Some e)). ap entry_of (f.known k p.0 p.1) ∙ (entry_of-code p.0 ∙ sym p.1))
+    (λ (p : noted_in v.noted k ≡ true). ap entry_of (f.noted k p) ∙ sym (noted_unknown plan ws v k f p)) (all k near))
 
 -- each cell is known with its verdict, or shown by the known ones
 pub closed_cell : (plan : Plan) (ws : List ℕ) (views : List View) (v : View) → Kept plan ws views → Fits plan ws v → ((k : ℕ) → k < count_of plan → IsDone v k) → (k : ℕ) → k < count_of plan
@@ -54,7 +49,7 @@ pub closed_state : (plan : Plan) (ws : List ℕ) (views : List View) (v : View) 
     → machine.IsClosed (machine.state_at (states_of (count_of plan) ws) k)
 closed_state plan ws views v r f all k l = let n : ℕ = count_of plan in let near : k < n = subst (λ (q : ℕ). k < q) (length_states n ws r.long) l in
     ⊎_elim (λ (p : (e : Entry) × (known_in v.known k ≡ Some e)). inl (p.0, states_at n ws k near ∙ (ap state_of (f.known k p.0 p.1) ∙ state_of-code p.0)))
-      (λ (p : noted_in v.noted k ≡ true). inr (states_at n ws k near ∙ ap state_of (f.noted k p))) (all k near)
+    (λ (p : noted_in v.noted k ≡ true). inr (states_at n ws k near ∙ ap state_of (f.noted k p))) (all k near)
 
 -- the settled cells of the machine are what the seat knows
 pub knows_states : (plan : Plan) (ws : List ℕ) (views : List View) (v : View) → Kept plan ws views → Fits plan ws v → ((k : ℕ) → k < count_of plan → IsDone v k) → machine.settled (states_of (count_of plan) ws) ≡ v.known
@@ -65,4 +60,4 @@ pub one_result : (plan : Plan) (ws : List ℕ) (views : List View) (v : View) �
     → (other : List Entry) → IsFilling v.known other → SameResult plan.grid full other
 one_result plan ws views v r f all full are other fills = let states : List CellState = states_of (count_of plan) ws in
     closed_result (record { grid = plan.grid; verdicts = full; states = states }) (shows_board plan ws views r full are) (closed_state plan ws views v r f all) other
-      (subst (λ (known : List (Option Entry)). IsFilling known other) (sym (knows_states plan ws views v r f all)) fills)
+    (subst (λ (known : List (Option Entry)). IsFilling known other) (sym (knows_states plan ws views v r f all)) fills)

@@ -1,10 +1,10 @@
 -- Each step that changes a word is an allowed event of the machine of cells.
-use Rattle.std.proofs.Common.{◌≡◌, ℕ, ◌+◌, ◌-◌, ◌<◌, ◌≤◌, ◌≢◌, ◌⊎◌, List, [], ◌∷◌, ◌++◌, length, set, replicate, sym, refl, ap, ◌∙◌, subst, inl, inr, ⊎_elim, arith, Option, Some, None}
+use Rattle.std.proofs.Common.{◌≡◌, ℕ, ◌+◌, ◌-◌, ◌<◌, ◌≤◌, ◌⊎◌, List, [], ◌∷◌, ◌++◌, length, set, replicate, sym, refl, ap, ◌∙◌, subst, inl, inr, ⊎_elim, arith, Option, Some, None}
 use mathlib.Core.Option.{some}
 use lib.ListN.{get_elem?}
 use Rattle.fp_order.specs.declared.entry.Entry.{Entry}
 use Rattle.fp_shown.specs.declared.state.CellState.{CellState}
-use Rattle.fp_shown.specs.declared.state.CellState.TheVariants.{Free, Claimed, Settled, Cancelled}
+use Rattle.fp_shown.specs.declared.state.CellState.TheVariants.{Free, Claimed}
 use Rattle.fp_shown.specs.declared.state.Event.{Event}
 use Rattle.fp_shown.specs.declared.state.Event.TheVariants.{Claim, Settle, Cancel, Quit}
 use Rattle.fp_shown.specs.Machine as machine
@@ -37,7 +37,7 @@ pub claims_reach : (plan : Plan) (ws : List ℕ) (views : List View) (k id : ℕ
     → Reaches plan (set ws k (8 + v.number))
 claims_reach plan ws views k id v r me pos near idle free = let n : ℕ = count_of plan in let f = r.fits id v me pos in
     let other : (j : ℕ) → j < length (states_of n ws) → machine.state_at (states_of n ws) j ≡ Claimed v.number → ⊥ = λ j l is. let l' : j < n = subst (λ (q : ℕ). j < q) (length_states n ws r.long) l in
-        let mine : v.claim ≡ Some j = owned plan ws views j id v r me pos l' (claimed-state_of (word_at ws j) v.number pos (sym (states_at n ws j l') ∙ is)) in let w : None ≡ Some j = sym idle ∙ mine in cc in
+    let mine : v.claim ≡ Some j = owned plan ws views j id v r me pos l' (claimed-state_of (word_at ws j) v.number pos (sym (states_at n ws j l') ∙ is)) in let w : None ≡ Some j = sym idle ∙ mine in cc in
     let may : MayClaim (states_of n ws) v.number k = record { seat = (omega arith, f.high); inside = inside plan ws views k r near; free = states_at n ws k near ∙ ap state_of free; alone = other } in
     next plan ws k (8 + v.number) (Claim v.number k) near r.reached (λ full are. may) (ap (λ (s : CellState). set (states_of n ws) k s) (sym (state_of-claimed (8 + v.number) v.number pos refl)))
 
@@ -48,15 +48,15 @@ pub settles_reach : (plan : Plan) (ws : List ℕ) (views : List View) (k m : ℕ
     → Reaches plan (set ws k (code e))
 settles_reach plan ws views k m e r pos high near is verdict = let n : ℕ = count_of plan in
     next plan ws k (code e) (Settle m k e) near r.reached
-      (λ full are. record { seat = (omega arith, high); inside = inside plan ws views k r near; claimed = claimed_here plan ws k m near pos is; verdict = are.each k e verdict })
-      (ap (λ (s : CellState). set (states_of n ws) k s) (sym (state_of-code e)))
+    (λ full are. record { seat = (omega arith, high); inside = inside plan ws views k r near; claimed = claimed_here plan ws k m near pos is; verdict = are.each k e verdict })
+    (ap (λ (s : CellState). set (states_of n ws) k s) (sym (state_of-code e)))
 
 pub cancels_reach : (plan : Plan) (ws : List ℕ) (views : List View) (k m : ℕ) → Kept plan ws views → 0 < m → m ≤ 16 → k < count_of plan → (word_at ws k ≡ 0) ⊎ (8 < word_at ws k) → IsShown plan.grid (settled_words (count_of plan) ws) k
     → Reaches plan (set ws k 1)
 cancels_reach plan ws views k m r pos high near vacant shown = let n : ℕ = count_of plan in let x : ℕ = word_at ws k in
     let pending : machine.IsPending (machine.state_at (states_of n ws) k) = ⊎_elim (λ (p : x ≡ 0). inl (states_at n ws k near ∙ ap state_of p)) (λ (p : 8 < x). inr (x - 8, states_at n ws k near ∙ state_of-high x (omega arith))) vacant in
     next plan ws k 1 (Cancel m k) near r.reached
-      (λ full are. record { seat = (omega arith, high); inside = inside plan ws views k r near; pending = pending; shown = subst (λ (known : List (Option Entry)). IsShown plan.grid known k) (sym (settled_states n ws)) shown }) refl
+    (λ full are. record { seat = (omega arith, high); inside = inside plan ws views k r near; pending = pending; shown = subst (λ (known : List (Option Entry)). IsShown plan.grid known k) (sym (settled_states n ws)) shown }) refl
 
 pub quits_reach : (plan : Plan) (ws : List ℕ) (views : List View) (k m : ℕ) → Kept plan ws views → 0 < m → m ≤ 16 → k < count_of plan → word_at ws k ≡ 8 + m → Reaches plan (set ws k 0)
 quits_reach plan ws views k m r pos high near is =

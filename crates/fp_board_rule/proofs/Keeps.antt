@@ -1,5 +1,5 @@
 -- Each step on one word keeps the rule.
-use Rattle.std.proofs.Common.{◌≡◌, ℕ, zero, suc, ◌+◌, ◌-◌, ◌<◌, ◌≤◌, ◌≢◌, ◌⊎◌, List, [], ◌∷◌, length, set, sym, refl, ap, ◌∙◌, subst, inl, inr, ⊎_elim, arith, Bool, true, false, eqb, eq-eqb, ne_eqb, Option, Some, None}
+use Rattle.std.proofs.Common.{◌≡◌, ℕ, ◌+◌, ◌-◌, ◌<◌, ◌≤◌, ◌≢◌, ◌⊎◌, List, length, set, sym, refl, ap, ◌∙◌, subst, inl, inr, ⊎_elim, arith, true, false, eqb, ne_eqb, Some, None}
 use mathlib.Core.Logic.{dite}
 use mathlib.Core.Option.{some, none}
 use native.Mathlib.Decide.{ℕ_discrete}
@@ -12,11 +12,11 @@ use Rattle.fp_shown.specs.Shown.{IsShown}
 use Rattle.fp_board_rule.specs.declared.plan.Plan.{Plan}
 use Rattle.fp_board_rule.specs.declared.view.View.{View}
 use Rattle.fp_board_rule.specs.Words.{code, entry_of, word_at, known_in, noted_in, settled_words}
-use Rattle.fp_board_rule.specs.Rule.{count_of, IsVerdictOf, IsWord, Fits, Has, Headed, Kept}
-use Rattle.fp_board_rule.specs.Steps.{Sat, Told, learned, claiming, idle, looks_after, IsAlone, Accounts, Finds, Grows, loaded, looked, last_loaded, claimed, settled, cancelled, quitted}
+use Rattle.fp_board_rule.specs.Rule.{count_of, IsVerdictOf, IsWord, Fits, Kept}
+use Rattle.fp_board_rule.specs.Steps.{Sat, learned, claiming, idle, looks_after, Finds, Grows, loaded, looked, last_loaded, claimed, settled, cancelled, quitted}
 use Rattle.fp_board_rule.proofs.Words.{code_low, entry_of-code, code_of-entry, length_settled}
 use Rattle.fp_board_rule.proofs.Moves.{shown_more}
-use Rattle.fp_board_rule.proofs.Changes.{after, Fair, changed, grows, same_grows, unmoved, reached_still, owned, knowledge, alone}
+use Rattle.fp_board_rule.proofs.Changes.{Fair, changed, grows, same_grows, unmoved, reached_still, owned, knowledge, alone}
 use Rattle.fp_board_rule.proofs.Events.{claims_reach, settles_reach, cancels_reach, quits_reach}
 
 abbrev pub Rule : Plan → State ℕ View → Type 0
@@ -52,18 +52,18 @@ finds plan ws views k id v r me pos near = let x : ℕ = word_at ws k in let f =
 load_fair : (plan : Plan) (ws : List ℕ) (views : List View) (k id : ℕ) (v : View) → Kept plan ws views → get_elem? views id ≡ some v → 0 < v.number → k < count_of plan
     → Fair plan v k (word_at ws k) (word_at ws k) (entry_of (word_at ws k)) (eqb (word_at ws k) 1) v.claim
 load_fair plan ws views k id v r me pos near = let x : ℕ = word_at ws k in let f = r.fits id v me pos in record {
-      legal = r.legal k near;
-      stays = λ a b. refl;
-      others = λ m is ne. inl refl;
-      owner = λ m up is. dite (ℕ_discrete m v.number) (λ s. inl (s, owned plan ws views k id v r me pos near (is ∙ ap (λ (n : ℕ). 8 + n) s))) (λ ne. inr (ne, is));
-      learns = λ e is. code_of-entry x e is;
-      notes = λ is. true_eq x 1 is;
-      agrees = λ e is. inr (ap entry_of (f.known k e is) ∙ entry_of-code e);
-      claim = λ j is. dite (ℕ_discrete j k) (λ s. inl (s, (f.claim k (is ∙ ap Some s)).1)) (λ ne. inr (ne, is));
-      claim_stays = λ j ne is. is;
-      tells = λ e is. inl is;
-      tells_cancel = λ is. inl is;
-    }
+  legal = r.legal k near;
+  stays = λ a b. refl;
+  others = λ m is ne. inl refl;
+  owner = λ m up is. dite (ℕ_discrete m v.number) (λ s. inl (s, owned plan ws views k id v r me pos near (is ∙ ap (λ (n : ℕ). 8 + n) s))) (λ ne. inr (ne, is));
+  learns = λ e is. code_of-entry x e is;
+  notes = λ is. true_eq x 1 is;
+  agrees = λ e is. inr (ap entry_of (f.known k e is) ∙ entry_of-code e);
+  claim = λ j is. dite (ℕ_discrete j k) (λ s. inl (s, (f.claim k (is ∙ ap Some s)).1)) (λ ne. inr (ne, is));
+  claim_stays = λ j ne is. is;
+  tells = λ e is. inl is;
+  tells_cancel = λ is. inl is;
+}
 
 load_grows : (plan : Plan) (ws : List ℕ) (views : List View) (k id : ℕ) (v : View) (looks refreshes : ℕ) → Kept plan ws views → get_elem? views id ≡ some v → 0 < v.number → k < count_of plan
     → Grows v (record (learned v k (word_at ws k)) { looks = looks; refreshes = refreshes })
@@ -78,21 +78,27 @@ learns plan ws views k id v looks refreshes r me pos near = let x : ℕ = word_a
 
 pub loads : (plan : Plan) (n id : ℕ) (m : Sat) (i : ℕ) → i < count_of plan → 0 < m.0.number → Allows (Rule plan) n id m i (λ y. y) (loaded (step n i 0 0 none) m)
 loads plan n id m i near pos s r wide me _ = (
-  learned m.0 i (word_at s.words i), keeps, tt,
+  learned m.0 i (word_at s.words i),
+  keeps,
+  tt,
   learns plan s.words s.views i id m.0 m.0.looks m.0.refreshes r me pos near,
   (refl, finds plan s.words s.views i id m.0 r me pos near, load_grows plan s.words s.views i id m.0 m.0.looks m.0.refreshes r me pos near),
 )
 
 pub looks : (plan : Plan) (n id : ℕ) (m : Sat) (i : ℕ) → i < count_of plan → 0 < m.0.number → Allows (Rule plan) n id m i (λ y. y) (looked (step n i 0 0 none) m)
 looks plan n id m i near pos s r wide me _ = let c : ℕ = looks_after m.0.claim i m.0.looks in (
-  record (learned m.0 i (word_at s.words i)) { looks = c }, keeps, tt,
+  record (learned m.0 i (word_at s.words i)) { looks = c },
+  keeps,
+  tt,
   learns plan s.words s.views i id m.0 c m.0.refreshes r me pos near,
   (refl, finds plan s.words s.views i id m.0 r me pos near, load_grows plan s.words s.views i id m.0 c m.0.refreshes r me pos near),
 )
 
 pub last_loads : (plan : Plan) (n id : ℕ) (m : Sat) (i : ℕ) → i < count_of plan → 0 < m.0.number → Allows (Rule plan) n id m i (λ y. y) (last_loaded (step n i 0 0 none) m)
 last_loads plan n id m i near pos s r wide me _ = (
-  record (learned m.0 i (word_at s.words i)) { refreshes = m.0.refreshes + 1 }, keeps, tt,
+  record (learned m.0 i (word_at s.words i)) { refreshes = m.0.refreshes + 1 },
+  keeps,
+  tt,
   learns plan s.words s.views i id m.0 m.0.looks (m.0.refreshes + 1) r me pos near,
   (refl, finds plan s.words s.views i id m.0 r me pos near, load_grows plan s.words s.views i id m.0 m.0.looks (m.0.refreshes + 1) r me pos near),
 )
@@ -102,7 +108,9 @@ pub claims : (plan : Plan) (n id : ℕ) (m : Sat) (i : ℕ) → i < count_of pla
 claims plan n id m i near pos idle s r wide me _ = let v = m.0 in let x : ℕ = word_at s.words i in let f = r.fits id v me pos in
     let told = finds plan s.words s.views i id v r me pos near in
     exchanged x 0 (8 + v.number) (Goes plan s i id m (claimed (step n i 0 (8 + v.number) none) m)) (λ hit. (
-      claiming v i, keeps, tt,
+      claiming v i,
+      keeps,
+      tt,
       changed plan s.words s.views i id (8 + v.number) v None false (Some i) 0 v.refreshes r me pos near record {
         legal = inr (inr (inr ((omega arith), (let a = f.high in omega arith))));
         stays = λ a b. absurd (omega arith);
@@ -151,25 +159,27 @@ settles plan n id m i e near pos mine verdict s r wide me _ = let v = m.0 in let
     let told = finds plan s.words s.views i id v r me pos near in
     let known_near : i < length v.known = subst (λ (q : ℕ). i < q) (sym f.known_long) near in
     exchanged x (8 + v.number) (code e) (Goes plan s i id m (settled (step n i (8 + v.number) (code e) none) m)) (λ hit.
-      let fair : Fair plan v i x (code e) (entry_of (code e)) (eqb (code e) 1) None = record {
-        legal = inr (inr (inl (e, refl, verdict)));
-        stays = λ a b. absurd (omega arith);
-        others = λ q w ne. absurd (ne (omega arith));
-        owner = λ q up w. absurd (omega arith);
-        learns = λ d w. code_of-entry (code e) d w;
-        notes = λ w. true_eq (code e) 1 w;
-        agrees = λ d w. let z = f.known i d w in let lo = code_low d in absurd (omega arith);
-        claim = λ j w. let z : None ≡ Some j = w in cc;
-        claim_stays = λ j ne w. let q : i ≡ j = let z : Some i ≡ Some j = sym mine ∙ w in cc in absurd (ne (sym q));
-        tells = λ d w. inr (ap entry_of w ∙ entry_of-code d);
-        tells_cancel = λ w. absurd (omega arith);
-      } in (
-      idle (learned v i (code e)), keeps, tt,
+    let fair : Fair plan v i x (code e) (entry_of (code e)) (eqb (code e) 1) None = record {
+      legal = inr (inr (inl (e, refl, verdict)));
+      stays = λ a b. absurd (omega arith);
+      others = λ q w ne. absurd (ne (omega arith));
+      owner = λ q up w. absurd (omega arith);
+      learns = λ d w. code_of-entry (code e) d w;
+      notes = λ w. true_eq (code e) 1 w;
+      agrees = λ d w. let z = f.known i d w in let lo = code_low d in absurd (omega arith);
+      claim = λ j w. let z : None ≡ Some j = w in cc;
+      claim_stays = λ j ne w. let q : i ≡ j = let z : Some i ≡ Some j = sym mine ∙ w in cc in absurd (ne (sym q));
+      tells = λ d w. inr (ap entry_of w ∙ entry_of-code d);
+      tells_cancel = λ w. absurd (omega arith);
+    } in (
+      idle (learned v i (code e)),
+      keeps,
+      tt,
       changed plan s.words s.views i id (code e) v (entry_of (code e)) (eqb (code e) 1) None v.looks v.refreshes r me pos near fair (λ w. absurd (omega arith)) (settles_reach plan s.words s.views i v.number e r pos f.high near hit verdict),
       ((λ _. refl), (λ miss. absurd (miss hit)), told, grows plan v i x (code e) (entry_of (code e)) (eqb (code e) 1) None v.looks v.refreshes known_near fair),
     ))
     (λ miss. let one = own_or_cancelled plan s.words v i f mine miss in
-        (idle v, keeps, tt, ends plan s.words s.views i id v r me pos near mine one, ((λ hit. absurd (miss hit)), (λ _. (one, refl)), told, same_kept v)))
+    (idle v, keeps, tt, ends plan s.words s.views i id v r me pos near mine one, ((λ hit. absurd (miss hit)), (λ _. (one, refl)), told, same_kept v)))
 
 pub cancels : (plan : Plan) (n id : ℕ) (m : Sat) (i found : ℕ) → i < count_of plan → 0 < m.0.number → (found ≡ 0) ⊎ (8 < found) → IsShown plan.grid m.0.known i
     → Allows (Rule plan) n id m i (λ y. either (eqb y found) 1 y) (cancelled (step n i found 1 none) m)
@@ -177,24 +187,26 @@ cancels plan n id m i found near pos vacant shown s r wide me _ = let v = m.0 in
     let told = finds plan s.words s.views i id v r me pos near in
     let known_near : i < length v.known = subst (λ (q : ℕ). i < q) (sym f.known_long) near in
     let by_words : IsShown plan.grid (settled_words (count_of plan) s.words) i =
-        shown_more plan r.right v.known (settled_words (count_of plan) s.words) f.known_long (length_settled (count_of plan) s.words r.long) (knowledge plan s.words v f) i shown in
+    shown_more plan r.right v.known (settled_words (count_of plan) s.words) f.known_long (length_settled (count_of plan) s.words r.long) (knowledge plan s.words v f) i shown in
     exchanged x found 1 (Goes plan s i id m (cancelled (step n i found 1 none) m)) (λ hit. let apart : 0 < x → x < 5 → ⊥ = λ a b. ⊎_elim (λ (p : found ≡ 0). omega arith) (λ (p : 8 < found). omega arith) vacant in
-      let fair : Fair plan v i x 1 None true v.claim = record {
-        legal = inr (inl refl);
-        stays = λ a b. absurd (apart a b);
-        others = λ q w ne. inr refl;
-        owner = λ q up w. absurd (omega arith);
-        learns = λ d w. let z : None ≡ Some d = w in cc;
-        notes = λ w. refl;
-        agrees = λ d w. inl refl;
-        claim = λ j w. dite (ℕ_discrete j i) (λ p. inl (p, inr refl)) (λ ne. inr (ne, w));
-        claim_stays = λ j ne w. w;
-        tells = λ d w. let low = code_low d in absurd (omega arith);
-        tells_cancel = λ w. inr refl;
-      } in (
-      learned v i 1, keeps, tt,
+    let fair : Fair plan v i x 1 None true v.claim = record {
+      legal = inr (inl refl);
+      stays = λ a b. absurd (apart a b);
+      others = λ q w ne. inr refl;
+      owner = λ q up w. absurd (omega arith);
+      learns = λ d w. let z : None ≡ Some d = w in cc;
+      notes = λ w. refl;
+      agrees = λ d w. inl refl;
+      claim = λ j w. dite (ℕ_discrete j i) (λ p. inl (p, inr refl)) (λ ne. inr (ne, w));
+      claim_stays = λ j ne w. w;
+      tells = λ d w. let low = code_low d in absurd (omega arith);
+      tells_cancel = λ w. inr refl;
+    } in (
+      learned v i 1,
+      keeps,
+      tt,
       changed plan s.words s.views i id 1 v None true v.claim v.looks v.refreshes r me pos near fair (λ w. by_words)
-        (cancels_reach plan s.words s.views i v.number r pos f.high near (⊎_elim (λ (p : found ≡ 0). inl (hit ∙ p)) (λ (p : 8 < found). inr (omega arith)) vacant) by_words),
+          (cancels_reach plan s.words s.views i v.number r pos f.high near (⊎_elim (λ (p : found ≡ 0). inl (hit ∙ p)) (λ (p : 8 < found). inr (omega arith)) vacant) by_words),
       ((λ _. refl), (λ miss. absurd (miss hit)), told, grows plan v i x 1 None true v.claim v.looks v.refreshes known_near fair),
     ))
     (λ miss. (v, keeps, tt, unmoved plan s.words s.views i id v r me, ((λ hit. absurd (miss hit)), (λ _. refl), told, same_grows v)))
@@ -204,7 +216,9 @@ pub quits : (plan : Plan) (n id : ℕ) (m : Sat) (i : ℕ) → i < count_of plan
 quits plan n id m i near pos mine s r wide me _ = let v = m.0 in let x : ℕ = word_at s.words i in let f = r.fits id v me pos in
     let told = finds plan s.words s.views i id v r me pos near in
     exchanged x (8 + v.number) 0 (Goes plan s i id m (quitted (step n i (8 + v.number) 0 none) m)) (λ hit. (
-      idle v, keeps, tt,
+      idle v,
+      keeps,
+      tt,
       changed plan s.words s.views i id 0 v None false None v.looks v.refreshes r me pos near record {
         legal = inl refl;
         stays = λ a b. absurd (omega arith);

@@ -1,11 +1,11 @@
 -- What a seat has after loads.
-use Rattle.std.proofs.Common.{◌≡◌, ℕ, zero, suc, ◌+◌, ◌<◌, ◌≤◌, ◌≢◌, ◌⊎◌, List, [], ◌∷◌, length, set, sym, refl, ap, ◌∙◌, subst, inl, inr, ⊎_elim, arith, get_or-set_same, get_or-set_other, eqb, eq-eqb, ne_eqb, Bool, true, false, Option, Some, None}
+use Rattle.std.proofs.Common.{◌≡◌, ℕ, ◌+◌, ◌<◌, ◌≢◌, List, length, set, sym, refl, ap, ◌∙◌, subst, ⊎_elim, arith, get_or-set_same, get_or-set_other, eqb, Bool, true, false, Option, Some, None}
 use mathlib.Core.Logic.{dite}
 use native.Mathlib.Decide.{ℕ_discrete}
 use lib.Seq.{set-get_or}
 use Rattle.fp_order.specs.declared.entry.Entry.{Entry}
 use Rattle.fp_board_rule.specs.declared.view.View.{View}
-use Rattle.fp_board_rule.specs.Words.{code, entry_of, word_at, known_in, noted_in}
+use Rattle.fp_board_rule.specs.Words.{entry_of, word_at, known_in, noted_in}
 use Rattle.fp_board_rule.specs.Steps.{knowing, noting, learned, IsAlone, Accounts, Finds, Grows, Sees, SameRank, IsLoaded, IsRefreshed}
 use Rattle.fp_board_rule.proofs.Words.{code_of-entry}
 use Rattle.fp_board_rule.proofs.Changes.{knowing_was, knowing_other, noting_was, noting_other, sees, same_grows}

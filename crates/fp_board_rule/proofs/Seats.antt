@@ -4,7 +4,7 @@ use mathlib.Core.Logic.{dite}
 use mathlib.Core.Option.{some, some-injective, some-ne-none}
 use native.Mathlib.Decide.{ℕ_discrete}
 use lib.ListN.{get_elem?, get_or}
-use Rattle.atomic_table.specs.Table.{State, Splits, Joins}
+use Rattle.atomic_table.specs.Table.{Splits, Joins}
 use Rattle.atomic_table.proofs.Lists.{at_set, at_longer, set_else}
 use Rattle.fp_order.specs.declared.entry.Entry.{Entry}
 use Rattle.fp_shown.specs.declared.state.CellState.{CellState}
@@ -12,8 +12,8 @@ use Rattle.fp_shown.specs.declared.state.CellState.TheVariants.{Free}
 use Rattle.fp_shown.specs.Machine as machine
 use Rattle.fp_board_rule.specs.declared.plan.Plan.{Plan}
 use Rattle.fp_board_rule.specs.declared.view.View.{View}
-use Rattle.fp_board_rule.specs.Words.{code, word_at, known_in, noted_in, states_of}
-use Rattle.fp_board_rule.specs.Rule.{count_of, IsPlan, Fits, Has, Headed, Kept, first_of, first_view}
+use Rattle.fp_board_rule.specs.Words.{word_at, known_in, noted_in, states_of}
+use Rattle.fp_board_rule.specs.Rule.{count_of, IsPlan, Fits, Has, Kept, first_view}
 use Rattle.fp_board_rule.specs.Steps.{left_part, right_part, taken_in, nobody, known_both, noted_both}
 use Rattle.fp_board_rule.proofs.Words.{code_low, code_one}
 use Rattle.fp_board_rule.proofs.Moves.{at_put, same_at, seat_after}
@@ -117,10 +117,10 @@ splits plan id v one room s r me =
     let f : Fits plan ws v = r.fits id v me (omega arith) in
     -- any view but the new one has an old number
     let old : (i : ℕ) (u : View) → get_elem? (set views id l) i ≡ some u → (z : View) × (get_elem? views i ≡ some z) × (z.number ≡ u.number) = λ i u at. ⊎_elim
-        (λ (t : (i ≡ id) × (l ≡ u)). let out : (z : View) × (get_elem? views i ≡ some z) × (z.number ≡ u.number) = (v, ap (λ (q : ℕ). get_elem? views q) t.0 ∙ me, ap (λ (z : View). z.number) t.1) in out)
-        (λ (t : (i ≢ id) × (get_elem? views i ≡ some u)). (u, t.1, refl)) (at_set views id i l u at) in
+    (λ (t : (i ≡ id) × (l ≡ u)). let out : (z : View) × (get_elem? views i ≡ some z) × (z.number ≡ u.number) = (v, ap (λ (q : ℕ). get_elem? views q) t.0 ∙ me, ap (λ (z : View). z.number) t.1) in out)
+    (λ (t : (i ≢ id) × (get_elem? views i ≡ some u)). (u, t.1, refl)) (at_set views id i l u at) in
     let below : (i : ℕ) (z : View) → get_elem? views i ≡ some z → z.number ≢ v.given + 1 = λ i z at same. let listed = h.listed i z at (omega arith) in let o = h.only z.number listed in
-        let a : z.number ≤ v.given = subst (λ (u : View). z.number ≤ u.given) is_head o.1 in omega arith in
+    let a : z.number ≤ v.given = subst (λ (u : View). z.number ≤ u.given) is_head o.1 in omega arith in
     let has : (P : View → Type 0) → Has views P → (P v → P l) → Has (set views id l ++ n ∷ []) P = λ P p goes. more_has P (set views id l) n (seat_after P views id v l me p goes) in
     record {
       right = r.right;
@@ -129,20 +129,20 @@ splits plan id v one room s r me =
       spare = r.spare;
       legal = r.legal;
       fits = λ i u at up. ⊎_elim (λ a. ⊎_elim
-            (λ (t : (i ≡ id) × (l ≡ u)). subst (Fits plan ws) t.1 record { known_long = f.known_long; noted_long = f.noted_long; high = f.high; known = f.known; noted = f.noted; claim = f.claim })
-            (λ (t : (i ≢ id) × (get_elem? views i ≡ some u)). r.fits i u t.1 up) (at_set views id i l u a))
+          (λ (t : (i ≡ id) × (l ≡ u)). subst (Fits plan ws) t.1 record { known_long = f.known_long; noted_long = f.noted_long; high = f.high; known = f.known; noted = f.noted; claim = f.claim })
+          (λ (t : (i ≢ id) × (get_elem? views i ≡ some u)). r.fits i u t.1 up) (at_set views id i l u a))
           (λ (t : (i ≡ length (set views id l)) × (n ≡ u)). subst (Fits plan ws) t.1 record { known_long = f.known_long; noted_long = f.noted_long; high = omega arith; known = f.known; noted = f.noted; claim = λ k is. let w : None ≡ Some k = is in cc })
           (at_snoc_there (set views id l) n u i at);
       claimed = λ k m near is up. has (λ u. (u.number ≡ m) × (u.claim ≡ Some k)) (r.claimed k m near is up) (λ p. p);
       apart = λ i j u w at at' up same. ⊎_elim
           (λ a. let x = old i u a in ⊎_elim
-              (λ b. let y = old j w b in r.apart i j x.0 y.0 x.1 y.1 (subst (λ (q : ℕ). 0 < q) (sym x.2) up) (x.2 ∙ same ∙ sym y.2))
-              (λ (t : (j ≡ length (set views id l)) × (n ≡ w)). absurd (below i x.0 x.1 (x.2 ∙ same ∙ ap (λ (z : View). z.number) (sym t.1))))
-              (at_snoc_there (set views id l) n w j at'))
+          (λ b. let y = old j w b in r.apart i j x.0 y.0 x.1 y.1 (subst (λ (q : ℕ). 0 < q) (sym x.2) up) (x.2 ∙ same ∙ sym y.2))
+          (λ (t : (j ≡ length (set views id l)) × (n ≡ w)). absurd (below i x.0 x.1 (x.2 ∙ same ∙ ap (λ (z : View). z.number) (sym t.1))))
+          (at_snoc_there (set views id l) n w j at'))
           (λ (t : (i ≡ length (set views id l)) × (n ≡ u)). ⊎_elim
-              (λ b. let y = old j w b in absurd (below j y.0 y.1 (y.2 ∙ sym same ∙ ap (λ (z : View). z.number) (sym t.1))))
-              (λ (q : (j ≡ length (set views id l)) × (n ≡ w)). t.0 ∙ sym q.0)
-              (at_snoc_there (set views id l) n w j at'))
+          (λ b. let y = old j w b in absurd (below j y.0 y.1 (y.2 ∙ sym same ∙ ap (λ (z : View). z.number) (sym t.1))))
+          (λ (q : (j ≡ length (set views id l)) × (n ≡ w)). t.0 ∙ sym q.0)
+          (at_snoc_there (set views id l) n w j at'))
           (at_snoc_there (set views id l) n u i at);
       headed = record {
         id = id;
@@ -154,12 +154,12 @@ splits plan id v one room s r me =
         high = omega arith;
         listed = λ i u at up. ⊎_elim
             (λ a. let x = old i u a in let was : noted_in v.out u.number ≡ true = ap (λ (z : View). noted_in z.out u.number) (sym is_head) ∙ ap (noted_in h.head.out) (sym x.2) ∙ h.listed i x.0 x.1 (subst (λ (q : ℕ). 1 < q) (sym x.2) up) in
-                set_stays v.out (v.given + 1) u.number was)
+            set_stays v.out (v.given + 1) u.number was)
             (λ (t : (i ≡ length (set views id l)) × (n ≡ u)). ap (noted_in (set v.out (v.given + 1) true)) (ap (λ (z : View). z.number) (sym t.1)) ∙ get_or-set_same v.out (v.given + 1) true false (omega arith))
             (at_snoc_there (set views id l) n u i at);
         only = λ m is. ⊎_elim
             (λ was. let o = h.only m (ap (λ (z : View). noted_in z.out m) is_head ∙ was) in let a : m ≤ v.given = subst (λ (u : View). m ≤ u.given) is_head o.1 in
-                let out : (1 < m) × (m ≤ v.given + 1) × Has (set views id l ++ n ∷ []) (λ u. u.number ≡ m) = (o.0, (omega arith), has (λ u. u.number ≡ m) o.2 (λ p. p)) in out)
+            let out : (1 < m) × (m ≤ v.given + 1) × Has (set views id l ++ n ∷ []) (λ u. u.number ≡ m) = (o.0, (omega arith), has (λ u. u.number ≡ m) o.2 (λ p. p)) in out)
             (λ e. let out : (1 < m) × (m ≤ v.given + 1) × Has (set views id l ++ n ∷ []) (λ u. u.number ≡ m) = ((omega arith), (omega arith), (length (set views id l), n, at_end (set views id l) n, sym e)) in out)
             (set_was v.out (v.given + 1) m is);
       };
@@ -250,16 +250,16 @@ joins plan id other v w one up idle s r me ne there =
     let as_long' : length w.noted ≤ length v.noted = let p = f.noted_long in let q = g.noted_long in omega arith in
     -- a seat with a number is as it was, or is the first
     let old : (i : ℕ) (u : View) → get_elem? end i ≡ some u → 0 < u.number → (i ≢ other) × (((i ≡ id) × (b ≡ u)) ⊎ ((i ≢ id) × (get_elem? views i ≡ some u))) = λ i u at pos. ⊎_elim
-        (λ (t : (i ≡ other) × (nobody ≡ u)). let e = ap (λ (z : View). z.number) t.1 in absurd (omega arith))
-        (λ (t : (i ≢ other) × (get_elem? (set views id b) i ≡ some u)). (t.0, at_set views id i b u t.1)) (at_set (set views id b) other i nobody u at) in
+    (λ (t : (i ≡ other) × (nobody ≡ u)). let e = ap (λ (z : View). z.number) t.1 in absurd (omega arith))
+    (λ (t : (i ≢ other) × (get_elem? (set views id b) i ≡ some u)). (t.0, at_set views id i b u t.1)) (at_set (set views id b) other i nobody u at) in
     let was : (i : ℕ) (u : View) → get_elem? end i ≡ some u → 0 < u.number → (z : View) × (get_elem? views i ≡ some z) × (z.number ≡ u.number) = λ i u at pos. ⊎_elim
-        (λ (t : (i ≡ id) × (b ≡ u)). let out : (z : View) × (get_elem? views i ≡ some z) × (z.number ≡ u.number) = (v, ap (λ (q : ℕ). get_elem? views q) t.0 ∙ me, ap (λ (z : View). z.number) t.1) in out)
-        (λ (t : (i ≢ id) × (get_elem? views i ≡ some u)). (u, t.1, refl)) (old i u at pos).1 in
+    (λ (t : (i ≡ id) × (b ≡ u)). let out : (z : View) × (get_elem? views i ≡ some z) × (z.number ≡ u.number) = (v, ap (λ (q : ℕ). get_elem? views q) t.0 ∙ me, ap (λ (z : View). z.number) t.1) in out)
+    (λ (t : (i ≢ id) × (get_elem? views i ≡ some u)). (u, t.1, refl)) (old i u at pos).1 in
     let has : (P : View → Type 0) → Has views P → (P v → P b) → (P w → P b) → Has end P = λ P p from_v from_w. dite (ℕ_discrete p.0 id)
-        (λ e. let out : Has end P = (id, b, at_b, from_v (subst P (same_at views p.0 id p.1 v p.2 me e) p.3)) in out)
-        (λ not_id. dite (ℕ_discrete p.0 other)
-        (λ e. let out : Has end P = (id, b, at_b, from_w (subst P (same_at views p.0 other p.1 w p.2 at_w e) p.3)) in out)
-        (λ not_other. (p.0, p.1, set_else (set views id b) other p.0 nobody not_other ∙ (set_else views id p.0 b not_id ∙ p.2), p.3))) in
+    (λ e. let out : Has end P = (id, b, at_b, from_v (subst P (same_at views p.0 id p.1 v p.2 me e) p.3)) in out)
+    (λ not_id. dite (ℕ_discrete p.0 other)
+    (λ e. let out : Has end P = (id, b, at_b, from_w (subst P (same_at views p.0 other p.1 w p.2 at_w e) p.3)) in out)
+    (λ not_other. (p.0, p.1, set_else (set views id b) other p.0 nobody not_other ∙ (set_else views id p.0 b not_id ∙ p.2), p.3))) in
     record {
       right = r.right;
       long = r.long;
@@ -299,4 +299,3 @@ joins plan id other v w one up idle s r me ne there =
       cancelled_noted = λ k near is. has (λ u. (0 < u.number) × (noted_in u.noted k ≡ true)) (r.cancelled_noted k near is) (λ p. (p.0, noted_both_left v.noted w.noted k p.1))
           (λ p. (subst (λ (q : ℕ). 0 < q) (sym one) (omega arith), noted_both_right v.noted w.noted k as_long' p.1));
     }
-

@@ -1,16 +1,13 @@
 -- Words that keep the rule show a state of the machine of cells.
-use Rattle.std.proofs.Common.{◌≡◌, ℕ, zero, suc, ◌+◌, ◌<◌, ◌≤◌, ◌⊎◌, List, [], ◌∷◌, length, get_or, sym, refl, ap, ◌∙◌, subst, ⊎_elim, arith, Option, Some, None}
+use Rattle.std.proofs.Common.{◌≡◌, ℕ, zero, suc, ◌<◌, ◌≤◌, List, [], ◌∷◌, length, sym, ◌∙◌, subst, ⊎_elim, arith, Option}
 use Rattle.fp_order.specs.declared.entry.Entry.{Entry}
-use Rattle.fp_order.specs.declared.entry.Entry.TheVariants.{Unknown}
-use Rattle.fp_order.specs.Grid.{cells_of}
 use Rattle.fp_shown.specs.declared.state.CellState.{CellState}
-use Rattle.fp_shown.specs.declared.state.CellState.TheVariants.{Free, Claimed, Settled, Cancelled}
-use Rattle.fp_shown.specs.Machine.{state_at, settled, IsBoard}
+use Rattle.fp_shown.specs.declared.state.CellState.TheVariants.{Free, Settled}
+use Rattle.fp_shown.specs.Machine.{state_at}
 use Rattle.fp_shown.specs.Shown.{IsShown}
 use Rattle.fp_board_rule.specs.declared.plan.Plan.{Plan}
-use Rattle.fp_board_rule.specs.declared.view.View.{View}
-use Rattle.fp_board_rule.specs.Words.{code, state_of, word_at, known_in, settled_words, states_of}
-use Rattle.fp_board_rule.specs.Rule.{count_of, AreVerdicts, IsVerdictOf, IsWord, Kept, ShowsBoard}
+use Rattle.fp_board_rule.specs.Words.{code, word_at, states_of}
+use Rattle.fp_board_rule.specs.Rule.{count_of, IsVerdictOf, IsWord, ShowsBoard}
 use Rattle.fp_board_rule.proofs.Words.{code_low, code_one, settled-state_of, cancelled-state_of, states_at, length_states, settled_states}
 
 -- a settled word is the verdict
@@ -35,5 +32,5 @@ shows_board plan words views r full are = let n : ℕ = count_of plan in record 
       are.each k e (verdict_at plan k (word_at words k) e (r.legal k l) (settled-state_of (word_at words k) e (sym (states_at n words k l) ∙ is)));
   shown = λ k l is. let near : k < n = subst (λ (q : ℕ). k < q) (length_states n words r.long) l in
       subst (λ (known : List (Option Entry)). IsShown plan.grid known k) (sym (settled_states n words))
-        (r.shown k near (cancelled-state_of (word_at words k) (sym (states_at n words k near) ∙ is)));
+      (r.shown k near (cancelled-state_of (word_at words k) (sym (states_at n words k near) ∙ is)));
 }

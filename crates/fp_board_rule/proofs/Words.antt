@@ -1,5 +1,5 @@
 -- What words say, one by one and in lists.
-use Rattle.std.proofs.Common.{◌≡◌, ℕ, zero, suc, ◌+◌, ◌-◌, ◌<◌, ◌≤◌, ◌≢◌, List, [], ◌∷◌, map, take, length, set, sym, refl, ap, ◌∙◌, arith, Bool, true, false, cond, eqb, ne_eqb, Option, Some, None}
+use Rattle.std.proofs.Common.{◌≡◌, ℕ, zero, suc, ◌+◌, ◌-◌, ◌<◌, ◌≤◌, List, [], ◌∷◌, length, set, sym, refl, ap, ◌∙◌, arith, Bool, false, cond, eqb, ne_eqb, Option, Some, None}
 use Rattle.fp_order.specs.declared.entry.Entry.{Entry}
 use Rattle.fp_order.specs.declared.entry.Entry.TheVariants.{Unknown, Leq, Less}
 use Rattle.fp_shown.specs.declared.state.CellState.{CellState}

@@ -1,12 +1,11 @@
 -- The rule of a board: what its words and the views of all seats have in common at each moment.
-use Rattle.std.specs.Prelude.{◌≡◌, ◌≢◌, ℕ, ◌+◌, ◌<◌, ◌≤◌, ◌⊎◌, List, length, replicate, take, Bool, true, false, Option, Some, None, slice_index_or, slice_get}
+use Rattle.std.specs.Prelude.{◌≡◌, ℕ, ◌+◌, ◌<◌, ◌≤◌, ◌⊎◌, List, length, replicate, true, false, Some, None, slice_index_or, slice_get}
 use mathlib.Core.Option.{some}
 use lib.ListN.{get_elem?}
 use Rattle.atomic_table.specs.Table.{State}
 use Rattle.fp_order.specs.declared.entry.Entry.{Entry}
 use Rattle.fp_order.specs.declared.entry.Entry.TheVariants.{Unknown}
 use Rattle.fp_order.specs.Grid.{cells_of, IsGrid}
-use Rattle.fp_shown.specs.declared.state.CellState.{CellState}
 use Rattle.fp_shown.specs.declared.state.CellState.TheVariants.{Free}
 use Rattle.fp_shown.specs.declared.state.Event.{Event}
 use Rattle.fp_shown.specs.Shown.{IsShown}

@@ -1,6 +1,6 @@
 use Rattle.std.proofs.Common.{arith, rules, ap, ◌∙◌, sym, length, None}
 use Rattle.fp_board_rule.specs.Steps.{or_known}
-use Rattle.fp_board.proofs.Merges.{both_start, both_step, length-both}
+use Rattle.fp_board.proofs.Merges.{both_start, both_step}
 use Rattle.fp_board.proofs.learning.learn_known.Goals as goal
 
 pub loop-k-init : goal.loop-k-init

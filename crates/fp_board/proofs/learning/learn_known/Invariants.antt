@@ -1,4 +1,4 @@
-use Rattle.std.proofs.Common.{◌≡◌, take, ◌||◌}
+use Rattle.std.proofs.Common.{◌≡◌, take}
 use Rattle.fp_board_rule.specs.Steps.{both, or_known}
 use Rattle.fp_board.proofs.learning.learn_known.Given as goal
 

@@ -1,5 +1,5 @@
 use Rattle.std.proofs.Common.{arith, rules, ap, ◌∙◌, sym, length, false, ◌||◌}
-use Rattle.fp_board.proofs.Merges.{both_start, both_step, length-both}
+use Rattle.fp_board.proofs.Merges.{both_start, both_step}
 use Rattle.fp_board.proofs.learning.learn_noted.Goals as goal
 
 pub loop-k-init : goal.loop-k-init

@@ -1,5 +1,5 @@
 use Rattle.std.proofs.Common.{◌≡◌, take, ◌||◌}
-use Rattle.fp_board_rule.specs.Steps.{both, or_known}
+use Rattle.fp_board_rule.specs.Steps.{both}
 use Rattle.fp_board.proofs.learning.learn_noted.Given as goal
 
 abbrev pub invariant-loop-k : goal.invariant-loop-k

@@ -1,4 +1,4 @@
-use Rattle.std.proofs.Common.{arith, rules, ap, ◌∙◌, subst, sym, refl, length, ◌<◌, ◌+◌, ℕ, get_or-set_same, get_or-set_other}
+use Rattle.std.proofs.Common.{rules, subst, sym, ◌<◌, ℕ}
 use Rattle.fp_board_rule.specs.declared.plan.Plan.{Plan}
 use Rattle.fp_board_rule.specs.Rule.{count_of}
 use Rattle.fp_shown.specs.Shown.{IsShown}

@@ -1,4 +1,4 @@
-use Rattle.std.proofs.Common.{subst, sym, ap, ◌∙◌, ℕ, ◌<◌, List, Option}
+use Rattle.std.proofs.Common.{subst, sym, ℕ, ◌<◌, List, Option}
 use Rattle.fp_order.specs.declared.entry.Entry.{Entry}
 use Rattle.fp_board_rule.specs.declared.plan.Plan.{Plan}
 use Rattle.fp_board_rule.specs.Rule.{count_of}

@@ -1,6 +1,4 @@
-use Rattle.std.proofs.Common.{arith, rules, ap, ◌∙◌, subst, sym, refl, length, ◌<◌, ◌+◌, ℕ, get_or-set_same, get_or-set_other}
-use Rattle.fp_board_rule.specs.declared.plan.Plan.{Plan}
-use Rattle.fp_board_rule.specs.Rule.{count_of}
+use Rattle.std.proofs.Common.{rules, subst, sym, ◌<◌, ℕ}
 use Rattle.fp_board_rule.proofs.Seats.{joins}
 use Rattle.fp_board.proofs.board.Board.join.Goals as goal
 

@@ -1,4 +1,4 @@
-use Rattle.std.proofs.Common.{arith, ap, ◌∙◌, sym, length, ℕ}
+use Rattle.std.proofs.Common.{arith, ap, ◌∙◌, length, ℕ}
 use Rattle.fp_board_rule.specs.Words.{word_at}
 use Rattle.fp_board_rule.proofs.Seats.{starts, get_or-replicate, length-replicate'}
 use Rattle.fp_board.proofs.board.Board.new.Goals as goal
