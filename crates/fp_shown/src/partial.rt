@@ -1,9 +1,9 @@
 //! Partial matrices.
 
-use fp_order::{Entry, Items};
+use fp_order::Entry;
 
 /// What is known of each cell, in the order of the cells.
 #[derive(Drop)]
 pub struct Partial {
-    pub known: Items<Option<Entry>>,
+    pub known: Vec<Option<Entry>>,
 }

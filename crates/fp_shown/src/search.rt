@@ -144,8 +144,8 @@ pub fn cell_shown(
 /// The columns, by their numbers, with which the column search of every filling begins.
 pub fn forced(alloc: Global, g: &Grid, p: &Partial) -> Result<Items<u32>, AllocError>
     requires grid { IsGrid g.now }
-    requires cells { length p.now.known ≡ length (cells_of g.now) }
-    ensures { IfOk result (λ columns. AreForced g.now p.now.known columns) }
+    requires cells { length p.now.known.items ≡ length (cells_of g.now) }
+    ensures { IfOk result (λ columns. AreForced g.now p.now.known.items columns) }
 {
     let s = column_cells(alloc, g)?;
     let Front {
@@ -158,9 +158,9 @@ pub fn forced(alloc: Global, g: &Grid, p: &Partial) -> Result<Items<u32>, AllocE
 /// Whether the row of the cell is decided by the forced columns in every filling.
 pub fn shown(alloc: Global, g: &Grid, p: &Partial, cell: u32) -> Result<bool, AllocError>
     requires grid { IsGrid g.now }
-    requires cells { length p.now.known ≡ length (cells_of g.now) }
+    requires cells { length p.now.known.items ≡ length (cells_of g.now) }
     requires cell { cell < length (cells_of g.now) }
-    ensures { IfOk result (λ b. IsTrue b ↔ IsShown g.now p.now.known cell) }
+    ensures { IfOk result (λ b. IsTrue b ↔ IsShown g.now p.now.known.items cell) }
 {
     let s = column_cells(alloc, g)?;
     cell_shown(alloc, &s, p.known.as_slice(), cell)

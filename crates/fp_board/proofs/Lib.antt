@@ -1,0 +1,4 @@
+pub mod Merges
+pub mod Ends
+pub mod Crossing
+pub mod Shares

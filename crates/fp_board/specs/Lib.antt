@@ -1,0 +1,5 @@
+pub mod Agreement
+pub mod Answers
+pub mod Closing
+pub mod Codes
+pub mod Seats
