@@ -101,6 +101,7 @@ fn clause(alloc: Global, function: u32, equation: &Term) -> Result<Clause, Alloc
     }
 }
 
+#[tactic(auto, unfolding(fp_term::specs::Names::is_name))]
 fn add_cong(alloc: Global, congs: &mut Items<CongRule>, term: &Term) -> Result<(), AllocError> {
     let name = Name::of(alloc, b"rule")?;
     match cong_rule(alloc, &name, term)? {

@@ -25,6 +25,7 @@ fn add_rule(rules: &mut Vec<Rule>, rule: Option<Rule>) -> Result<(), AllocError>
 }
 
 // The rules that the theorems state.
+#[tactic(auto, unfolding(fp_term::specs::Names::is_name))]
 fn rules_of(alloc: Global, theorems: &[Term]) -> Result<RuleSet, AllocError> {
     let name = Name::of(alloc, b"rule")?;
     let mut rules = Vec::new(alloc);
