@@ -1,6 +1,9 @@
 //! Clauses completed, and their calls.
-ghost use Rattle.std.specs.Prelude.{◌≡◌, length, IfOk};
-ghost use Rattle.fp_pattern.specs.Completed.{AreBelow};
+ghost use Rattle.std.specs.Prelude.{◌≡◌, length, Ok, IfOk};
+ghost use Rattle.fp_kernel.specs.Start.{signature_of};
+ghost use Rattle.fp_pattern.specs.Completed.{AreBelow, IsCompletion};
+ghost use Rattle.fp_cong.specs.Rows.{AreRows};
+ghost use Rattle.fp_admit.specs.Admitted.{table_of, Completes};
 
 use crate::taking::Parts;
 use fp_cong::{CallFault, calls};
@@ -48,6 +51,7 @@ fn completed(
     parts: &Parts,
 ) -> Result<Items<Clause>, FunFault>
     requires { AreBelow (length parts.now.heads) parts.now.clauses }
+    ensures { IfOk result (λ clauses. IsCompletion (table_of theory.now) (signature_of theory.now.defs) parts.now.clauses parts.now.heads (Ok clauses)) }
 {
     match complete(
         alloc,
@@ -67,7 +71,9 @@ fn sites_of(
     clauses: &[Clause],
     heads: &[Head],
     rules: &CongTable,
-) -> Result<Items<CallSite>, FunFault> {
+) -> Result<Items<CallSite>, FunFault>
+    ensures { IfOk result (AreRows heads.now rules.now.rules clauses.now 64) }
+{
     match calls(alloc, clauses, heads, rules, MOST_CALLS) {
         Ok(sites) => Ok(sites),
         Err(fault) => Err(of_calls(at, fault)),
@@ -82,7 +88,7 @@ pub(crate) fn group_of(
     parts: Parts,
 ) -> Result<Group, FunFault>
     requires { AreBelow (length parts.heads) parts.clauses }
-    ensures { IfOk result (λ group. group.heads ≡ parts.heads) }
+    ensures { IfOk result (Completes theory.now parts.heads parts.clauses) }
 {
     let clauses = completed(alloc, theory, at, &parts)?;
     let rules = congruence_rules(alloc, theory)?;

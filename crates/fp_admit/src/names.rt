@@ -1,5 +1,6 @@
 //! The names that a command for a group makes, and whether they are free.
 ghost use Rattle.std.specs.Prelude.{◌≡◌, ◌++◌, codes, IfOk};
+ghost use Rattle.fp_term.specs.Names.{numbered};
 
 use crate::fault::name_taken;
 use crate::spec::GroupSpec;
@@ -27,7 +28,9 @@ fn longer(alloc: Global, name: &Name, ending: &[u8]) -> Result<Name, AllocError>
     }
 }
 
-fn with_number(alloc: Global, stem: &Name, number: u32) -> Result<Name, AllocError> {
+fn with_number(alloc: Global, stem: &Name, number: u32) -> Result<Name, AllocError>
+    ensures { IfOk result (λ n. n ≡ numbered stem.now number) }
+{
     if stem.as_slice().len() > LONGEST_STEM {
         return Err(AllocError);
     }
@@ -42,13 +45,17 @@ pub fn definition_name(alloc: Global, constant: &Name) -> Result<Name, AllocErro
 }
 
 /// The name of the partial rule of that number, from 1, of the group with that first function.
-pub fn psimp_name(alloc: Global, first: &Name, number: u32) -> Result<Name, AllocError> {
+pub fn psimp_name(alloc: Global, first: &Name, number: u32) -> Result<Name, AllocError>
+    ensures { IfOk result (λ n. n ≡ numbered (first.now ++ codes "_psimp_") number) }
+{
     let stem = longer(alloc, first, b"_psimp_")?;
     with_number(alloc, &stem, number)
 }
 
 /// The name of the rule of that number, from 1, of the group with that first function.
-pub fn simp_name(alloc: Global, first: &Name, number: u32) -> Result<Name, AllocError> {
+pub fn simp_name(alloc: Global, first: &Name, number: u32) -> Result<Name, AllocError>
+    ensures { IfOk result (λ n. n ≡ numbered (first.now ++ codes "_simp_") number) }
+{
     let stem = longer(alloc, first, b"_simp_")?;
     with_number(alloc, &stem, number)
 }

@@ -1,6 +1,9 @@
 //! Clauses as functions with patterns and right sides.
-ghost use Rattle.std.specs.Prelude.{◌≡◌, ◌<◌, length, IfOk, IfSome, OnOk};
+ghost use Rattle.std.specs.Prelude.{◌≡◌, ◌<◌, ◌+◌, ◌++◌, ◌∷◌, [], length, Some, IfOk, IfSome, OnOk};
+ghost use Rattle.fp_term.specs.Terms.{head_of};
+ghost use Rattle.fp_term.specs.Typing.{function_type_over};
 ghost use Rattle.fp_pattern.specs.Completed.{AreBelow};
+ghost use Rattle.fp_admit.specs.Admitted.{AreEach, number_from, function_number, IsClauseOf, IsHeadOf};
 
 use crate::fault::no_clause;
 use crate::variables::{check_bound, check_hidden};
@@ -22,31 +25,36 @@ pub(crate) struct Parts {
     pub(crate) clauses: Items<Clause>,
 }
 
-// The number of the function of that name.
-fn number_of(exact: &[(Name, Ty)], name: &Name) -> Option<u32>
-    ensures { IfSome result (λ number. number < length exact.now) }
+// The number of the function of that name, where they are numbered from here on.
+fn number_from(exact: &[(Name, Ty)], name: &Name, number: u32) -> Option<u32>
+    ensures is { IfSome result (λ found. number_from number exact.now name.now ≡ Some found) }
+    ensures below { IfSome result (λ found. found < number + length exact.now) }
 {
-    for index in 0..exact.len() {
-        if exact[index].0.equals(name) {
-            return u32::try_from(index).ok();
-        }
+    match exact {
+        [] => None,
+        [first, rest @ ..] => if first.0.equals(name) {
+            Some(number)
+        } else {
+            number_from(rest, name, number.checked_add(1)?)
+        },
     }
-    None
 }
 
 // The function that is defined by an equation with that left side.
 fn defined_by(exact: &[(Name, Ty)], left: &Term) -> Option<u32>
-    ensures { IfSome result (λ number. number < length exact.now) }
+    ensures is { IfSome result (λ number. function_number exact.now (head_of left.now) ≡ Some number) }
+    ensures below { IfSome result (λ number. number < length exact.now) }
 {
     match head(left).node() {
-        Node::Const { name, .. } => number_of(exact, name),
+        Node::Const { name, .. } => number_from(exact, name, 0),
         _ => None,
     }
 }
 
 // The parts of a clause, if it is one.
 fn parts_of(alloc: Global, exact: &[(Name, Ty)], term: &Term) -> Result<Option<Clause>, AllocError>
-    ensures { IfOk result (λ o. IfSome o (λ clause. clause.function < length exact.now)) }
+    ensures is { IfOk result (λ o. IfSome o (IsClauseOf exact.now term.now)) }
+    ensures below { IfOk result (λ o. IfSome o (λ clause. clause.function < length exact.now)) }
 {
     let Some(equation) = sides(term) else {
         return Ok(None);
@@ -71,7 +79,8 @@ fn parts_of(alloc: Global, exact: &[(Name, Ty)], term: &Term) -> Result<Option<C
 fn add_clause(clauses: &mut Items<Clause>, count: usize, clause: Clause) -> Result<(), AllocError>
     requires below { AreBelow count clauses.old }
     requires function { clause.function < count }
-    ensures { OnOk result (AreBelow count clauses.new) }
+    ensures added { OnOk result (clauses.new ≡ clauses.old ++ clause ∷ []) }
+    ensures below { OnOk result (AreBelow count clauses.new) }
 {
     clauses.push(clause)
 }
@@ -82,7 +91,8 @@ fn taken(
     exact: &[(Name, Ty)],
     terms: &[Term],
 ) -> Result<Items<Clause>, FunFault>
-    ensures { IfOk result (AreBelow (length exact.now)) }
+    ensures each { IfOk result (AreEach (IsClauseOf exact.now) terms.now) }
+    ensures below { IfOk result (AreBelow (length exact.now)) }
 {
     let mut clauses = Items::new(alloc);
     let mut number = 0u32;
@@ -141,7 +151,9 @@ fn check_some(at: u32, exact: &[(Name, Ty)], clauses: &[Clause]) -> Result<(), F
 
 // The function with its type, of which so many arguments are taken. Want of memory where it doesn't have so many, which
 // doesn't happen at a function that has a well-typed clause.
-fn head_of(alloc: Global, name: &Name, ty: &Ty, count: usize) -> Result<Head, AllocError> {
+fn head_by(alloc: Global, name: &Name, ty: &Ty, count: usize) -> Result<Head, AllocError>
+    ensures { IfOk result (IsHeadOf (name.now, ty.now)) }
+{
     let mut args = Items::new(alloc);
     let mut rest = ty;
     for _ in 0..count {
@@ -165,13 +177,13 @@ fn heads_of(
     exact: &[(Name, Ty)],
     clauses: &[Clause],
 ) -> Result<Items<Head>, AllocError>
-    ensures { IfOk result (λ heads. length heads ≡ length exact.now) }
+    ensures { IfOk result (AreEach IsHeadOf exact.now) }
 {
     let mut heads = Items::new(alloc);
     let mut function = 0u32;
     for (name, ty) in exact {
         let count = count_of(clauses, function).unwrap_or(0);
-        heads.push(head_of(alloc, name, ty, count)?)?;
+        heads.push(head_by(alloc, name, ty, count)?)?;
         function = next(function)?;
     }
     Ok(heads)
@@ -184,7 +196,8 @@ pub(crate) fn take_apart(
     exact: &[(Name, Ty)],
     terms: &[Term],
 ) -> Result<Parts, FunFault>
-    ensures heads { IfOk result (λ parts. length parts.heads ≡ length exact.now) }
+    ensures heads { IfOk result (λ parts. AreEach IsHeadOf exact.now parts.heads) }
+    ensures each { IfOk result (λ parts. AreEach (IsClauseOf exact.now) terms.now parts.clauses) }
     ensures clauses { IfOk result (λ parts. AreBelow (length exact.now) parts.clauses) }
 {
     if exact.len() > MOST_FUNCTIONS {

@@ -2,6 +2,7 @@
 ghost use Rattle.std.specs.Prelude.{◌≡◌, true, length, IfOk};
 ghost use Rattle.fp_infer.specs.Elaborated.{AreTypesIn};
 ghost use Rattle.fp_kernel.specs.Start.{signature_of};
+ghost use Rattle.fp_admit.specs.Admitted.{AreEach, IsTyped, typed_heads};
 
 use crate::spec::GroupSpec;
 use fp_commands::Head;
@@ -17,7 +18,7 @@ use std::alloc::{AllocError, Global};
 
 /// The functions with their written types.
 pub(crate) fn written_types(alloc: Global, heads: &[Head]) -> Result<Items<(Name, Ty)>, AllocError>
-    ensures { IfOk result (λ exact. length exact ≡ length heads.now) }
+    ensures { IfOk result (λ exact. exact ≡ typed_heads heads.now) }
 {
     let mut exact = Items::new(alloc);
     for head in heads {
@@ -129,6 +130,7 @@ fn typed_clause(
     raw: &Raw,
 ) -> Result<Term, FunFault>
     requires { AreTypesIn (signature_of theory.now.defs) exact.now }
+    ensures { IfOk result (IsTyped (signature_of theory.now.defs) exact.now raw.now) }
 {
     let constants = Constants {
         signature: theory.signature(),
@@ -147,6 +149,7 @@ fn typed_each(
     clauses: &[Raw],
 ) -> Result<Items<Term>, FunFault>
     requires { AreTypesIn (signature_of theory.now.defs) exact.now }
+    ensures { IfOk result (AreEach (IsTyped (signature_of theory.now.defs) exact.now) clauses.now) }
 {
     let mut terms = Items::new(alloc);
     for raw in clauses {
@@ -162,7 +165,9 @@ pub(crate) fn typed_clauses(
     theory: &Theory,
     exact: &[(Name, Ty)],
     spec: GroupSpec<'_>,
-) -> Result<Items<Term>, FunFault> {
+) -> Result<Items<Term>, FunFault>
+    ensures { IfOk result (AreEach (IsTyped (signature_of theory.now.defs) exact.now) spec.entry.clauses.now) }
+{
     let signature = theory.signature();
     let constants = Constants { signature, exact };
     check_written_names(&constants, spec)?;

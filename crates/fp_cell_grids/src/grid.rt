@@ -89,7 +89,7 @@ impl Drop for Asked {
     }
 }
 
-fn asked(alloc: Global, written: Written) -> Result<Asked, AllocError> {
+fn asked_of(alloc: Global, written: Written) -> Result<Asked, AllocError> {
     let Written {
         heads,
         clauses,
@@ -144,7 +144,7 @@ fn put_row(alloc: Global, text: &mut String, asked: &Asked, row: u32) -> Result<
 
 /// The verdicts of the cells of the group, a line for each call.
 pub fn grid(alloc: Global, written: Written) -> Result<String, AllocError> {
-    let asked = asked(alloc, written)?;
+    let asked = asked_of(alloc, written)?;
     let mut text = String::new(alloc);
     let mut row = 0u32;
     for site in asked.group.sites.as_slice() {

@@ -1,39 +1,61 @@
--- Lists of terms without loose numbers.
-use Rattle.std.proofs.Common.{◌≡◌, ◌<◌, ℕ, zero, suc, List, [], ◌∷◌, ◌++◌, length, get_or, arith}
-use Rattle.std.specs.Prelude.{Result, Ok, Err, OnOk, IfOk}
+-- The parts of an order have no loose numbers where the measures have none.
+use Rattle.std.proofs.Common.{◌≡◌, ◌≤◌, refl, sym, arith, ℕ, zero, suc, List, [], ◌∷◌, ◌++◌, length, Bool, true, false}
+use Rattle.std.specs.Prelude.{Result, Ok, Err, IfOk, Option, Some, None, if◌then◌else◌}
+use Rattle.std.specs.List.{slice_get}
+use Rattle.std.proofs.lemmas.List.{append-nil}
 use Rattle.fp_term.specs.Terms.{Tm}
-use Rattle.fp_print.specs.Numbers.{HasOnly, AllHaveOnly}
+use Rattle.fp_print.specs.Numbers.{AllHaveOnly}
+use Rattle.fp_level.specs.Ranks.{has}
+use Rattle.fp_level.specs.declared.rank.Rank.{Rank}
+use Rattle.fp_level.specs.declared.rank.Rank.TheVariants as rank
 use Rattle.fp_outcome.specs.Shown.{ListsHaveOnly, AreShownParts, IsShownPart}
+use Rattle.fp_outcome.specs.Parts.{numbered_measure, column_of, set_below, sets_of, part_of, parts_of}
 use Rattle.fp_outcome.specs.declared.item.OrderPart.{OrderPart}
 
 both : (ts us : List Tm) → AllHaveOnly 0 ts → AllHaveOnly 0 us → AllHaveOnly 0 (ts ++ us)
 both [] us h k = k
 both (t ∷ ts) us h k = (h.0, both ts us h.1 k)
 
-both_lists : (xs ys : List (List Tm)) → ListsHaveOnly xs → ListsHaveOnly ys → ListsHaveOnly (xs ++ ys)
-both_lists [] ys h k = k
-both_lists (x ∷ xs) ys h k = (h.0, both_lists xs ys h.1 k)
+numbered_shown : (ts : List Tm) (i : ℕ) → AllHaveOnly 0 ts → AllHaveOnly 0 (numbered_measure ts i)
+numbered_shown [] i h = tt
+numbered_shown (t ∷ ts) zero h = (h.0, tt)
+numbered_shown (t ∷ ts) (suc i) h = numbered_shown ts i h.1
 
-both_parts : (xs ys : List OrderPart) → AreShownParts xs → AreShownParts ys → AreShownParts (xs ++ ys)
-both_parts [] ys h k = k
-both_parts (x ∷ xs) ys h k = (h.0, both_parts xs ys h.1 k)
+column_shown : (lists : List (List Tm)) (numbers : List ℕ) → ListsHaveOnly lists → AllHaveOnly 0 (column_of lists numbers)
+column_shown [] numbers h = tt
+column_shown (ts ∷ lists) [] h = tt
+column_shown (ts ∷ lists) (i ∷ numbers) h = both (numbered_measure ts i) (column_of lists numbers) (numbered_shown ts i h.0) (column_shown lists numbers h.1)
 
-pub at_index : (ts : List Tm) (i : ℕ) (t : Tm) → t ≡ get_or ts i t → i < length ts → AllHaveOnly 0 ts → HasOnly 0 t
-at_index [] i t e h k = absurd (omega (arith, h))
-at_index (u ∷ ts) zero t e h k = rw e k.0
-at_index (u ∷ ts) (suc i) t e h k = at_index ts i t e (omega (arith, h)) k.1
+chosen_shown : (ts : List Tm) (i : ℕ) (b : Bool) → AllHaveOnly 0 ts → AllHaveOnly 0 (if b then numbered_measure ts i else [])
+chosen_shown ts i true h = numbered_shown ts i h
+chosen_shown ts i false h = tt
 
-pub pushed : {A E : Type 0} (r : Result A E) (old new : List Tm) (t : Tm) → OnOk r (new ≡ old ++ t ∷ []) → AllHaveOnly 0 old → HasOnly 0 t → OnOk r (AllHaveOnly 0 new)
-pushed (Ok u) old new t e h k = rw e (both old (t ∷ []) h (k, tt))
-pushed (Err f) old new t e h k = tt
+set_shown : (ts : List Tm) (set n : ℕ) → AllHaveOnly 0 ts → AllHaveOnly 0 (set_below ts set n)
+set_shown ts set zero h = tt
+set_shown ts set (suc n) h = both (set_below ts set n) (if has set n then numbered_measure ts n else []) (set_shown ts set n h) (chosen_shown ts n (has set n) h)
 
-pub extended : {E : Type 0} (r : Result (List Tm) E) (first second : List Tm) → IfOk r (λ all. all ≡ first ++ second) → AllHaveOnly 0 first → AllHaveOnly 0 second → IfOk r (AllHaveOnly 0)
-extended (Ok all) first second e h k = rw e (both first second h k)
-extended (Err f) first second e h k = tt
+sets_shown : (lists : List (List Tm)) (sets : List ℕ) → ListsHaveOnly lists → ListsHaveOnly (sets_of lists sets)
+sets_shown [] sets h = tt
+sets_shown (ts ∷ lists) [] h = tt
+sets_shown (ts ∷ lists) (set ∷ sets) h = (set_shown ts set (length ts) h.0, sets_shown lists sets h.1)
 
-pub extended_lists : {E : Type 0} (r : Result (List (List Tm)) E) (first second : List (List Tm)) → IfOk r (λ all. all ≡ first ++ second) → ListsHaveOnly first → ListsHaveOnly second → IfOk r ListsHaveOnly
-extended_lists (Ok all) first second e h k = rw e (both_lists first second h k)
-extended_lists (Err f) first second e h k = tt
+part_shown : (lists : List (List Tm)) (r : Rank) → ListsHaveOnly lists → IsShownPart (part_of lists r)
+part_shown lists (rank.Column numbers) h = column_shown lists numbers h
+part_shown lists (rank.Max sets) h = sets_shown lists sets h
+part_shown lists (rank.Min sets) h = sets_shown lists sets h
 
-pub one_more : (old new : List OrderPart) (part : OrderPart) → new ≡ old ++ part ∷ [] → AreShownParts old → IsShownPart part → AreShownParts new
-one_more old new part e h k = rw e (both_parts old (part ∷ []) h (k, tt))
+each_shown : (lists : List (List Tm)) (ranks : List Rank) → ListsHaveOnly lists → AreShownParts (parts_of lists ranks)
+each_shown lists [] h = tt
+each_shown lists (r ∷ ranks) h = (part_shown lists r h, each_shown lists ranks h)
+
+pub all_shown : {E : Type 0} (r : Result (List OrderPart) E) (lists : List (List Tm)) (ranks : List Rank) → IfOk r (λ parts. parts ≡ parts_of lists ranks) → ListsHaveOnly lists → IfOk r AreShownParts
+all_shown (Ok parts) lists ranks e h = rw e (each_shown lists ranks h)
+all_shown (Err f) lists ranks e h = tt
+
+none_there : (own : List Tm) (i : ℕ) → length own ≤ i → slice_get own i ≡ None
+none_there [] i h = refl
+none_there (t ∷ own) zero h = absurd (omega (arith, h))
+none_there (t ∷ own) (suc i) h = none_there own i (omega (arith, h))
+
+pub none_added : (chosen own : List Tm) (i : ℕ) → length own ≤ i → chosen ≡ chosen ++ numbered_measure own i
+none_added chosen own i h = rw (none_there own i h) (sym (append-nil chosen))
