@@ -6,7 +6,7 @@ mod ack;
 mod steps;
 
 pub use ack::new_board;
-pub use steps::{cancel_cell, claim_cell, settle_cell};
+pub use steps::{cancel_cell, claim_cell, settle_cell, settle_first};
 
 #[cfg(test)]
 mod meeting;

@@ -1,6 +1,6 @@
 //! Two seats at one board.
 
-use crate::{cancel_cell, claim_cell, new_board, settle_cell};
+use crate::{cancel_cell, claim_cell, new_board, settle_cell, settle_first};
 use fp_board::{Cancel, Claim, Settle};
 use std::test::Fail;
 
@@ -21,12 +21,8 @@ fn a_settled_cell_is_found_and_a_cancelled_one_not_settled(rt: HostRuntime) -> R
     let mut second = board.split(rt.alloc(), &mut first)?;
     let held = claim_cell(rt.alloc(), &board, &mut first, 3)?;
     assert_eq!(rt; held, Some(Claim::Claimed));
-    for k in 0..3 {
-        let claimed = claim_cell(rt.alloc(), &board, &mut second, k)?;
-        assert_eq!(rt; claimed, Some(Claim::Claimed));
-        let settled = settle_cell(rt.alloc(), &board, &mut second, k)?;
-        assert_eq!(rt; settled, Some(Settle::Settled));
-    }
+    let settled = settle_first(rt.alloc(), &board, &mut second, 3)?;
+    assert!(rt; settled);
     let found = cancel_cell(rt.alloc(), &board, &mut second, 0, 0)?;
     assert_eq!(rt; found, Some(Cancel::Found(4)));
     let cancelled = cancel_cell(rt.alloc(), &board, &mut second, 3, 9)?;

@@ -64,3 +64,26 @@ pub fn cancel_cell(
     }
     Ok(Some(board.cancel(seat, k, expected)))
 }
+
+/// Claims and settles the first cells one after another. False where one of them couldn't be.
+pub fn settle_first(
+    alloc: Global,
+    board: &Board,
+    seat: &mut Seat,
+    count: u32,
+) -> Result<bool, AllocError>
+    requires { IsOf board.now seat.old }
+    ensures { IsOf board.now seat.new }
+{
+    for k in 0..count {
+        let claimed = claim_cell(alloc, board, seat, k)?;
+        if claimed != Some(Claim::Claimed) {
+            return Ok(false);
+        }
+        let settled = settle_cell(alloc, board, seat, k)?;
+        if settled != Some(Settle::Settled) {
+            return Ok(false);
+        }
+    }
+    Ok(true)
+}
