@@ -92,8 +92,8 @@ fn ack(rt: HostRuntime) -> Result<(), Fail> {
     Ok(())
 }
 
-// gcd
-const GCD: Written<'static> = Written {
+/// Euclid's algorithm.
+pub const GCD: Written<'static> = Written {
     marks: &[
         (b'@', "(nat)"),
         (b'?', "(bool)"),

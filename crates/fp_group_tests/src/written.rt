@@ -9,6 +9,7 @@ use std::alloc::{AllocError, Global};
 
 /// A group: what its marks stand for, its functions with the numbers of their arguments, and its clauses with the numbers of
 /// their functions.
+#[derive(Clone, Copy)]
 pub struct Written<'a> {
     pub marks: &'a [(u8, &'a str)],
     pub functions: &'a [(&'a str, usize)],
@@ -34,6 +35,11 @@ pub fn full(alloc: Global, marks: &[(u8, &str)], text: &str) -> Result<Vec<u8>, 
         }
     }
     Ok(bytes)
+}
+
+/// The name.
+pub fn name(alloc: Global, text: &str) -> Result<Name, AllocError> {
+    Name::new(alloc, text.as_bytes())?.ok_or(AllocError)
 }
 
 /// The term of a text.
@@ -96,7 +102,7 @@ const IF_CONG: &str =
     "(a (a (c imp (fun (bool) (fun (bool) (bool)))) (a (a (c eq (fun (bool) (fun (bool) (bool)))) (v b (bool))) (v c (bool)))) (a (a (c imp (fun (bool) (fun (bool) (bool)))) (a (a (c imp (fun (bool) (fun (bool) (bool)))) (v c (bool))) (a (a (c eq (fun 'a (fun 'a (bool)))) (v x 'a)) (v u 'a)))) (a (a (c imp (fun (bool) (fun (bool) (bool)))) (a (a (c imp (fun (bool) (fun (bool) (bool)))) (a (c not (fun (bool) (bool))) (v c (bool)))) (a (a (c eq (fun 'a (fun 'a (bool)))) (v y 'a)) (v v 'a)))) (a (a (c eq (fun 'a (fun 'a (bool)))) (a (a (a (c If (fun (bool) (fun 'a (fun 'a 'a)))) (v b (bool))) (v x 'a)) (v y 'a))) (a (a (a (c If (fun (bool) (fun 'a (fun 'a 'a)))) (v c (bool))) (v u 'a)) (v v 'a))))))";
 
 fn rules(alloc: Global) -> Result<CongTable, AllocError> {
-    let name = Name::new(alloc, b"If_cong")?.ok_or(AllocError)?;
+    let name = name(alloc, "If_cong")?;
     let mut rules: Items<CongRule> = Items::new(alloc);
     if let Some(rule) = cong_rule(alloc, &name, &term(alloc, &[], IF_CONG)?)? {
         rules.push(rule)?;
@@ -116,7 +122,8 @@ fn sites(
     }
 }
 
-fn heads(alloc: Global, written: &Written<'_>) -> Result<Items<Head>, AllocError> {
+/// The heads of the functions.
+pub fn heads(alloc: Global, written: &Written<'_>) -> Result<Items<Head>, AllocError> {
     let mut heads = Items::new(alloc);
     for (text, count) in written.functions {
         let constant = term(alloc, written.marks, *text)?;
@@ -125,7 +132,8 @@ fn heads(alloc: Global, written: &Written<'_>) -> Result<Items<Head>, AllocError
     Ok(heads)
 }
 
-fn clauses(alloc: Global, written: &Written<'_>) -> Result<Items<Clause>, AllocError> {
+/// The clauses as they are written.
+pub fn clauses(alloc: Global, written: &Written<'_>) -> Result<Items<Clause>, AllocError> {
     let mut clauses = Items::new(alloc);
     for (function, text) in written.clauses {
         let equation = term(alloc, written.marks, *text)?;
