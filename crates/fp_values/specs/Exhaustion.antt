@@ -1,6 +1,6 @@
 -- The exhaustion of a type with declared constructors, at a term.
 use Rattle.std.specs.Prelude.{◌≡◌, ℕ, List, [], ◌∷◌, Option, Some, None, Result, Ok, Err, codes}
-use Rattle.fp_term.specs.Types.{Typ, Typs, variable, applied, found_type, matched}
+use Rattle.fp_term.specs.Types.{Typ, variable, applied, found_type, matched}
 use Rattle.fp_term.specs.Terms.{Tm, replaced, retyped_term}
 use Rattle.fp_term.specs.Variables.{variables_of}
 use Rattle.fp_kernel.specs.Definitions.{Def}

@@ -1,6 +1,6 @@
 -- The declared constructors of a type.
 use Rattle.std.specs.Prelude.{ℕ, List, []}
-use Rattle.fp_term.specs.Types.{Typ, Typs, variable, applied}
+use Rattle.fp_term.specs.Types.{Typ, variable, applied}
 use Rattle.fp_group.specs.declared.constructors.ConType.{ConType}
 use Rattle.fp_pattern.specs.Patterns.{listed}
 
